@@ -1,0 +1,43 @@
+// Two-line element sets: the record, reading and writing.
+
+pub enum Class {
+    Unclassified,
+    Classified,
+    Secret,
+}
+
+// The international designator: eight blanks, or launch year and number (five digits) and three
+// places for the piece, letters first, then blanks, each as its byte.
+pub enum Designator {
+    Blank,
+    Piece { launch: u64, a: u8, b: u8, c: u8 },
+}
+
+// A field with an exponent: mantissa * 10 ^ (exponent - 5). A zero mantissa has exponent 0.
+pub struct Scaled {
+    pub mantissa: i64,
+    pub exponent: i64,
+}
+
+// Each field is a whole number in its last decimal place: angles in 0.0001 degree, eccentricity in
+// 10 ^ -7, motion in 10 ^ -8 revolution a day, ndot in 10 ^ -8. The year is whole, 1957 to 2056, and
+// the day counts 10 ^ -8 of a day; January 1, 0h, is 100000000.
+pub struct Record {
+    pub number: u64,
+    pub class: Class,
+    pub designator: Designator,
+    pub year: u64,
+    pub day: u64,
+    pub ndot: i64,
+    pub nddot: Scaled,
+    pub bstar: Scaled,
+    pub ephemeris: u64,
+    pub element: u64,
+    pub inclination: u64,
+    pub node: u64,
+    pub eccentricity: u64,
+    pub perigee: u64,
+    pub anomaly: u64,
+    pub motion: u64,
+    pub revolution: u64,
+}
