@@ -1,6 +1,7 @@
--- Rounded binary64 arithmetic, a circle for each rounding, and the paper's decimals. Definitions only.
+-- Document 01, "Numbers the model rests on": "All arithmetic is f64, one rounding per operation". A circle marks an operation that rounds once.
+-- With it the decimals of the papers and the three values of pi. Definitions only.
 use Prim.Native.Nat.{ℕ, _^_}
-use mathlib.Core.Bool.{Bool, true, false, cond}
+use mathlib.Core.Bool.{Bool, true, false}
 use lib.Ieee.{Float, nan, inf, fin, binary64, add, sub, mul, div, round}
 
 abbrev pub _⊕_ : Float → Float → Float
@@ -23,7 +24,7 @@ infixl 6 _⊖_
 abbrev pub dec : ℕ → ℕ → Float
 dec m k = round binary64 false m (10 ^ k)
 
--- pi is the nearest value; two pi and half pi, which are its double and its half (`Trig`)
+-- "Pi is the nearest f64, two pi its double": `two-pi-doubles` and `half-pi-halves` of proofs/Theorems, and `pi-nearest`, that further digits change nothing
 abbrev pub pi : Float
 pi = dec 3141592653589793 15
 

@@ -1,0 +1,124 @@
+// Sine and cosine: the argument brought within a quarter turn of zero, and a Taylor polynomial.
+ghost use mathlib.Core.Path.{_≡_};
+ghost use Rattle.elementary.specs.Trig.{turned, wrapped, folded, sinPoly, cosPoly, sinOf, signed, cosOf, sinCos};
+use crate::HALF_PI;
+use crate::PI;
+use crate::SinCos;
+use crate::TWO_PI;
+
+pub fn sin(x: f64) -> f64
+    ensures { λ y. ⌜ y ≡ sinOf x ⌝ }
+{
+    sin_poly(fold(wrap(rem_turn(x))))
+}
+
+pub fn cos(x: f64) -> f64
+    ensures { λ y. ⌜ y ≡ cosOf x ⌝ }
+{
+    let r = wrap(rem_turn(x));
+    sign(r, cos_poly(fold(r)))
+}
+
+// Both, with one reduction.
+pub fn sin_cos(x: f64) -> SinCos
+    ensures { λ y. ⌜ y ≡ sinCos x ⌝ }
+    ensures { λ y. ⌜ (y .sin ≡ sinOf x) × (y .cos ≡ cosOf x) ⌝ }
+{
+    let r = wrap(rem_turn(x));
+    let f = fold(r);
+    let s = sin_poly(f);
+    let c = sign(r, cos_poly(f));
+    SinCos { sin: s, cos: c }
+}
+
+// The remainder by two pi, with no call of fmod where x is from -2 pi to 4 pi.
+pub fn rem_turn(x: f64) -> f64
+    ensures { λ r. ⌜ r ≡ turned x ⌝ }
+{
+    if x > -TWO_PI {
+        if x < TWO_PI {
+            return x;
+        }
+        if x < 12.566370614359172 {
+            return x - TWO_PI;
+        }
+    }
+    x % TWO_PI
+}
+
+// From a remainder to -pi .. pi.
+fn wrap(r: f64) -> f64
+    ensures { λ y. ⌜ y ≡ wrapped r ⌝ }
+{
+    if r > PI {
+        return r - TWO_PI;
+    }
+    if r < -PI {
+        return r + TWO_PI;
+    }
+    r
+}
+
+// A magnitude above pi / 2, reflected at pi of its own sign.
+fn fold(r: f64) -> f64
+    ensures { λ y. ⌜ y ≡ folded r ⌝ }
+{
+    if r > HALF_PI {
+        return PI - r;
+    }
+    if r < -HALF_PI {
+        return -PI - r;
+    }
+    r
+}
+
+// The cosine c, negated where r was reflected.
+fn sign(r: f64, c: f64) -> f64
+    ensures { λ y. ⌜ y ≡ signed r c ⌝ }
+{
+    if r > HALF_PI {
+        return -c;
+    }
+    if r < -HALF_PI {
+        return -c;
+    }
+    c
+}
+
+// Degree 21: the divisors are the factorials from 21 down to 1.
+fn sin_poly(x: f64) -> f64
+    ensures { λ y. ⌜ y ≡ sinPoly x ⌝ }
+{
+    let z = x * x;
+    let p = 1.0 / 51090942171709440000.0;
+    let p = p * z - 1.0 / 121645100408832000.0;
+    let p = p * z + 1.0 / 355687428096000.0;
+    let p = p * z - 1.0 / 1307674368000.0;
+    let p = p * z + 1.0 / 6227020800.0;
+    let p = p * z - 1.0 / 39916800.0;
+    let p = p * z + 1.0 / 362880.0;
+    let p = p * z - 1.0 / 5040.0;
+    let p = p * z + 1.0 / 120.0;
+    let p = p * z - 1.0 / 6.0;
+    let p = p * z + 1.0;
+    p * x
+}
+
+// Degree 22: the divisors are the factorials from 22 down to 0.
+fn cos_poly(x: f64) -> f64
+    ensures { λ y. ⌜ y ≡ cosPoly x ⌝ }
+{
+    let z = x * x;
+    let p = -(1.0 / 1124000727777607680000.0);
+    let p = p * z + 1.0 / 2432902008176640000.0;
+    let p = p * z - 1.0 / 6402373705728000.0;
+    let p = p * z + 1.0 / 20922789888000.0;
+    let p = p * z - 1.0 / 87178291200.0;
+    let p = p * z + 1.0 / 479001600.0;
+    let p = p * z - 1.0 / 3628800.0;
+    let p = p * z + 1.0 / 40320.0;
+    let p = p * z - 1.0 / 720.0;
+    let p = p * z + 1.0 / 24.0;
+    let p = p * z - 1.0 / 2.0;
+    p * z + 1.0
+}
