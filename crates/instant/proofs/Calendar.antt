@@ -1,0 +1,52 @@
+-- Laws of the calendar. Assumes nothing.
+use mathlib.Core.Path.{_≡_, refl, sym, ap, _∙_, subst}
+use mathlib.Core.Bool.{Bool, true, false, cond, _&&_, false≢true}
+use Prim.Native.Nat.{ℕ, zero, suc, _+_, _-_, _*_, _/_, _%_, _≤_, _<_}
+use native.Mathlib.Numerals.{add-one}
+use native.Mathlib.Omega.{arith}
+use lib.Dec.{T, leb, ltb, eqb, leb→le, ltb→lt}
+use borrow.Author.Tests.{ltb-true, ltb-false, leb-true, eqb-true, eqb-false, lt-ltb, le-ltb}
+use Rattle.instant.specs.Calendar.{daysIn, daysBefore, calendarEnd, inCalendar, lastDay, dayInRange, yearInRange, together, epochMicros, yearsSince, dayMicros, unitMicros}
+
+-- The calendar ends at 3,155,760,000,000,000.
+pub calendar-end : calendarEnd ≡ 3155760000000000
+unfolding calendarEnd daysBefore daysIn
+calendar-end = refl
+
+-- ---- the days before a year, without counting them one by one
+length-of : (k : ℕ) (b : Bool) → eqb ((1957 + k) % 4) 0 ≡ b → 365 * k + k / 4 + cond b 366 365 ≡ 365 * suc k + suc k / 4
+length-of k true h = let e = eqb-true ((1957 + k) % 4) 0 h in omega arith
+length-of k false h = let e = eqb-false ((1957 + k) % 4) 0 h in omega arith
+
+pub days-before : (k : ℕ) → daysBefore k ≡ 365 * k + k / 4
+unfolding daysBefore daysIn
+days-before zero = refl
+days-before (suc k) = ap (λ (z : ℕ). z + daysIn (1957 + k)) (days-before k) ∙ length-of k (eqb ((1957 + k) % 4) 0) refl
+
+-- ---- the year of a day: the days before it are no more, and those before the next year are more
+pub year-begun : (d : ℕ) → daysBefore (yearsSince d) ≤ d
+unfolding yearsSince
+year-begun d = subst (λ (z : ℕ). z ≤ d) (sym (days-before ((4 * d + 3) / 1461))) (omega arith)
+
+pub year-not-over : (d : ℕ) → d < daysBefore (suc (yearsSince d))
+unfolding yearsSince
+year-not-over d = subst (λ (z : ℕ). d < z) (sym (days-before (suc ((4 * d + 3) / 1461)))) (omega arith)
+
+-- ---- what the code's test of an instant says
+pub inside : (t : ℕ) → t < 3155760000000000 → inCalendar t ≡ true
+unfolding inCalendar
+inside t h = subst (λ (z : ℕ). ltb t z ≡ true) (sym calendar-end) (lt-ltb t 3155760000000000 h)
+
+pub outside : (t : ℕ) → 3155760000000000 ≤ t → inCalendar t ≡ false
+unfolding inCalendar
+outside t h = subst (λ (z : ℕ). ltb t z ≡ false) (sym calendar-end) (le-ltb t 3155760000000000 h)
+
+-- a day that an epoch may have is from day 1 up to the end of day 366
+pub day-bounds : (year day : ℕ) → dayInRange year day ≡ true → (100000000 ≤ day) × (day < 36700000000)
+unfolding dayInRange lastDay
+day-bounds year day h = go (leb 100000000 day) (ltb day 36700000000) (leb-true 100000000 day) (ltb-true day 36700000000) h
+  where
+    go : (a b : Bool) → (a ≡ true → 100000000 ≤ day) → (b ≡ true → day < 36700000000) → (a && b) ≡ true → (100000000 ≤ day) × (day < 36700000000)
+    go true true p q h = (p refl, q refl)
+    go true false p q h = absurd (false≢true h)
+    go false b p q h = absurd (false≢true h)

@@ -1,0 +1,4 @@
+-- Laws that the proofs share, and the theorems of the calendar.
+pub mod Signed
+pub mod Calendar
+pub mod Move

@@ -1,0 +1,21 @@
+use mathlib.Core.Path.{_≡_, ap, _∙_}
+use mathlib.Core.Bool.{true, false}
+use Prim.Native.Nat.{ℕ}
+use lib.Dec.{ltb}
+use borrow.Author.Tests.{lt-ltb, le-ltb}
+use Rattle.instant.specs.Calendar.{inCalendar}
+use Rattle.instant.specs.Move.{landed}
+use Rattle.instant.proofs.Calendar.{inside, outside}
+use Rattle.instant.proofs.land.Statement.{statement}
+use Rattle.instant.proofs.land.Tie as tie
+
+returns : tie.Need-returns
+unfolding landed
+returns c = simp (inside _ (c .if1 .taken))
+
+returns-2 : tie.Need-returns-2
+unfolding landed
+returns-2 c = simp (outside _ (c .if1 .left))
+
+pub land-spec : {M : Type 1} → statement M
+land-spec = tie.close (tie.spec returns returns-2)

@@ -1,0 +1,65 @@
+-- Instants and their calendar, document 01, "Instants". Definitions only.
+use Prim.Native.Nat.{ℕ, zero, suc, _+_, _-_, _*_, _/_, _%_}
+use mathlib.Core.Bool.{Bool, true, false, cond, _&&_}
+use lib.Dec.{leb, ltb, eqb}
+use Rattle.instant.specs.declared.Epoch.{Epoch}
+use Rattle.instant.specs.declared.Epoch.the-variants as epoch
+use Rattle.instant.specs.declared.Dated.{Dated}
+use Rattle.instant.specs.declared.Dated.the-variants as dated
+
+-- microseconds in a day of 86,400 s, and in one unit of the epoch's last digit, 10 ^ -8 day
+abbrev pub dayMicros : ℕ
+dayMicros = 86400000000
+
+abbrev pub unitMicros : ℕ
+unitMicros = 864
+
+-- the days of a year. No year of 1957-2056 is a century's that 400 does not divide
+unfoldable pub daysIn : ℕ → ℕ
+daysIn year = cond (eqb (year % 4) 0) 366 365
+
+-- the days from 1957 January 1 to January 1 of the year k years later
+unfoldable pub daysBefore : ℕ → ℕ
+daysBefore zero = 0
+daysBefore (suc k) = daysBefore k + daysIn (1957 + k)
+
+-- 2057 January 1, 0h
+unfoldable pub calendarEnd : ℕ
+calendarEnd = daysBefore 100 * dayMicros
+
+-- "An instant .. lies before 2057 January 1, 0h"
+unfoldable pub inCalendar : ℕ → Bool
+inCalendar t = ltb t calendarEnd
+
+-- The last day that an epoch of the year may have. Document 01: "day from 1 up to, but not including, 367", in every year
+unfoldable pub lastDay : ℕ → ℕ
+lastDay year = 366
+
+-- a day of the year in units of 10 ^ -8 day; January 1, 0h, is 100000000
+unfoldable pub dayInRange : ℕ → ℕ → Bool
+dayInRange year day = leb 100000000 day && ltb day ((lastDay year + 1) * 100000000)
+
+unfoldable pub yearInRange : ℕ → Bool
+yearInRange year = leb 1957 year && leb year 2056
+
+-- microseconds from 1957 January 1, 0h, to a year, a day of it counted from 1, and a time of that day
+unfoldable pub together : ℕ → ℕ → ℕ → ℕ
+together year day micros = (daysBefore (year - 1957) + (day - 1)) * dayMicros + micros
+
+-- to a year and a day of it in units of 10 ^ -8 day
+unfoldable pub epochMicros : ℕ → ℕ → ℕ
+epochMicros year day = daysBefore (year - 1957) * dayMicros + (day - 100000000) * unitMicros
+
+unfoldable pub epochOf : ℕ → ℕ → Epoch
+epochOf year day = cond (yearInRange year && dayInRange year day) (epoch.At (record { 0 = epochMicros year day })) epoch.Outside
+
+-- years since 1957 of the day with that many days before it: `Calendar` of proofs/ shows that the day is in that year
+unfoldable pub yearsSince : ℕ → ℕ
+yearsSince days = (4 * days + 3) / 1461
+
+-- an instant as year, day of the year from 1, microseconds of the day
+unfoldable pub dateOf : ℕ → Dated
+dateOf t =
+    let days = t / dayMicros in
+    let k = yearsSince days in
+    cond (inCalendar t) (dated.On (record { year = 1957 + k; day = days - daysBefore k + 1; micros = t % dayMicros })) dated.Outside

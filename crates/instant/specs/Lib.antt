@@ -1,0 +1,3 @@
+pub mod Quantity
+pub mod Calendar
+pub mod Move
