@@ -1,0 +1,2 @@
+pub mod Getgravconst
+pub mod Computed
