@@ -1,0 +1,4 @@
+pub mod Dscom
+pub mod Dsinit
+pub mod Dpper
+pub mod Finite
