@@ -1,2 +1,4 @@
 pub mod Layout
 pub mod Number
+pub mod Refusals
+pub mod Read

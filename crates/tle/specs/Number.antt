@@ -1,9 +1,10 @@
--- Document 01, "The two lines": the whole number of a field, and the sum under the checksum.
-use Prim.Native.Nat.{ℕ, _+_, _*_, _-_, _%_}
+-- Document 01, "The two lines": the number in a field, and the sum under the checksum.
+use Prim.Native.Nat.{ℕ, zero, suc, _+_, _*_, _-_}
 use mathlib.Core.List.{List, [], _∷_}
-use mathlib.Core.Bool.{cond}
+use mathlib.Core.Bool.{Bool, true, false, cond}
 use Prim.Native.Char.{code}
 use lib.Dec.{eqb}
+use lib.IntN.{ℤ, pos, negsuc}
 use lib.ListN.{take, drop}
 use Rattle.tle.specs.Layout.{isDigit}
 
@@ -24,3 +25,13 @@ field at w line = valueOn 0 (take w (drop at line))
 unfoldable pub sum : List ℕ → ℕ
 sum [] = 0
 sum (b ∷ bs) = cond (eqb b (code "-")) 1 (digitOf b) + sum bs
+
+-- minus n
+unfoldable pub minus : ℕ → ℤ
+minus zero = pos zero
+minus (suc n) = negsuc n
+
+-- n under its sign: negative where the sign is a minus
+unfoldable pub signed : Bool → ℕ → ℤ
+signed true n = minus n
+signed false n = pos n

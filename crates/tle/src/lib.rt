@@ -1,5 +1,10 @@
 // Two-line element sets: the record, reading and writing.
 
+ghost use mathlib.Core.Path.{_≡_};
+ghost use Rattle.tle.specs.Refusals.{numberOf};
+
+mod reader;
+
 pub enum Class {
     Unclassified,
     Classified,
@@ -40,4 +45,64 @@ pub struct Record {
     pub anomaly: u64,
     pub motion: u64,
     pub revolution: u64,
+}
+
+// The two lines of a set.
+pub enum Line {
+    One,
+    Two,
+}
+
+// The fields that have a range, in column order.
+pub enum Field {
+    Day,
+    Inclination,
+    Node,
+    Perigee,
+    Anomaly,
+    Motion,
+}
+
+// Why two lines are refused: document 01's refusals 1 to 6, each with what comes back with it.
+pub enum Refusal {
+    Length(Line),
+    Start(Line),
+    Column(Line, usize),
+    Checksum(Line),
+    Numbers,
+    Range(Field),
+}
+
+// What judging the columns of a line, or of two, finds.
+pub enum Verdict {
+    Lawful,
+    Refused(Refusal),
+}
+
+// What judging the form of two lines gives: their fields, or a refusal from 1 to 5.
+pub enum Form {
+    Fields(Record),
+    Refused(Refusal),
+}
+
+// What reading two lines gives: the record, whose fields are in their ranges, or a refusal from 1 to 6.
+pub enum Reading {
+    Record(Record),
+    Refused(Refusal),
+}
+
+impl Refusal {
+    // Document 01's number of the refusal.
+    pub fn number(self) -> u64
+        ensures { λ r. ⌜ r ≡ numberOf self ⌝ }
+    {
+        match self {
+            Refusal::Length(_) => 1,
+            Refusal::Start(_) => 2,
+            Refusal::Column(_, _) => 3,
+            Refusal::Checksum(_) => 4,
+            Refusal::Numbers => 5,
+            Refusal::Range(_) => 6,
+        }
+    }
 }

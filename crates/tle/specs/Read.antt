@@ -1,0 +1,137 @@
+-- Document 01, "The two lines" and "Refusal numbers" 1 to 6: what reading two lines gives.
+use Prim.Native.Nat.{ℕ, _+_, _*_, _%_}
+use mathlib.Core.List.{List}
+use mathlib.Core.Bool.{Bool, true, cond, _&&_}
+use Prim.Native.Char.{code}
+use lib.Dec.{eqb, ltb, leb}
+use lib.IntN.{ℤ, pos}
+use lib.ListN.{length, take, getD}
+use Rattle.tle.specs.Layout.{agreed, isBlank, layout1, layout2}
+use Rattle.tle.specs.Number.{digitOf, field, sum, signed}
+use Rattle.tle.specs.declared.Class.{Class}
+use Rattle.tle.specs.declared.Class.the-variants.{Unclassified, Classified, Secret}
+use Rattle.tle.specs.declared.Designator.{Designator}
+use Rattle.tle.specs.declared.Designator.the-variants.{Blank, Piece}
+use Rattle.tle.specs.declared.Scaled.{Scaled}
+use Rattle.tle.specs.declared.Record.{Record}
+use Rattle.tle.specs.declared.Line.{Line}
+use Rattle.tle.specs.declared.Line.the-variants.{One, Two}
+use Rattle.tle.specs.declared.Field.the-variants.{Day, Inclination, Node, Perigee, Anomaly, Motion}
+use Rattle.tle.specs.declared.Refusal.{Refusal}
+use Rattle.tle.specs.declared.Refusal.the-variants.{Length, Start, Column, Checksum, Numbers, Range}
+use Rattle.tle.specs.declared.Verdict.{Verdict}
+use Rattle.tle.specs.declared.Verdict.the-variants as verdict
+use Rattle.tle.specs.declared.Form.{Form}
+use Rattle.tle.specs.declared.Form.the-variants as form
+use Rattle.tle.specs.declared.Reading.{Reading}
+use Rattle.tle.specs.declared.Reading.the-variants as reading
+
+-- the answer where a test fails, and else what comes next
+abbrev pub unless : {A : Type 0} → Bool → A → A → A
+unless test refused next = cond test next refused
+
+-- the checksum of a line, over columns 1 to 68
+unfoldable pub checksumOf : List ℕ → ℕ
+checksumOf line = sum (take 68 line) % 10
+
+-- a line by its layout: refusals 1 to 4
+unfoldable pub verdictOf : Line → List ℕ → List ℕ → Verdict
+verdictOf which layout line =
+    unless (eqb (length line) 69) (verdict.Refused (Length which))
+    (unless (ltb 0 (agreed layout true line)) (verdict.Refused (Start which))
+    (unless (eqb (agreed layout true line) 69) (verdict.Refused (Column which (agreed layout true line + 1)))
+    (unless (eqb (checksumOf line) (digitOf (getD line 68 0))) (verdict.Refused (Checksum which)) verdict.Lawful)))
+
+-- the catalogue number of a line, columns 3 to 7
+unfoldable pub numberAt : List ℕ → ℕ
+numberAt line = field 2 5 line
+
+-- a second verdict, where the first is lawful
+abbrev pub then : Verdict → Verdict → Verdict
+then verdict.Lawful next = next
+then (verdict.Refused r) next = verdict.Refused r
+
+-- line 1 goes through 1 to 4, then line 2, then 5
+unfoldable pub pairOf : List ℕ → List ℕ → Verdict
+pairOf line1 line2 =
+    then (verdictOf One layout1 line1)
+    (then (verdictOf Two layout2 line2)
+    (unless (eqb (numberAt line1) (numberAt line2)) (verdict.Refused Numbers) verdict.Lawful))
+
+unfoldable pub classOf : ℕ → Class
+classOf b = cond (eqb b (code "U")) Unclassified (cond (eqb b (code "C")) Classified Secret)
+
+-- the designator in columns 10 to 17
+unfoldable pub designatorAt : List ℕ → Designator
+designatorAt line = cond (isBlank (getD line 9 0)) Blank (Piece (field 9 5 line) (getD line 14 0) (getD line 15 0) (getD line 16 0))
+
+-- years 57 to 99 are 1957 to 1999 and 00 to 56 are 2000 to 2056
+unfoldable pub yearOf : ℕ → ℕ
+yearOf yy = cond (leb 57 yy) (1900 + yy) (2000 + yy)
+
+-- the byte after the first at is a minus sign
+abbrev pub minusAt : ℕ → List ℕ → Bool
+minusAt at line = eqb (getD line at 0) (code "-")
+
+-- sign, five digits, sign of the exponent, one digit; a zero mantissa reads with exponent 0
+unfoldable pub scaledAt : ℕ → List ℕ → Scaled
+scaledAt at line = record {
+  mantissa = signed (minusAt at line) (field (at + 1) 5 line);
+  exponent = cond (eqb (field (at + 1) 5 line) 0) (pos 0) (signed (minusAt (at + 6) line) (field (at + 7) 1 line));
+}
+
+-- ddd.dddd in 0.0001 degree
+unfoldable pub degreesAt : ℕ → List ℕ → ℕ
+degreesAt at line = field at 3 line * 10000 + field (at + 4) 4 line
+
+-- each field of two lawful lines, in its last decimal place
+unfoldable pub fieldsOf : List ℕ → List ℕ → Record
+fieldsOf line1 line2 = record {
+  number = numberAt line1;
+  class = classOf (getD line1 7 0);
+  designator = designatorAt line1;
+  year = yearOf (field 18 2 line1);
+  day = field 20 3 line1 * 100000000 + field 24 8 line1;
+  ndot = signed (minusAt 33 line1) (field 35 8 line1);
+  nddot = scaledAt 44 line1;
+  bstar = scaledAt 53 line1;
+  ephemeris = field 62 1 line1;
+  element = field 64 4 line1;
+  inclination = degreesAt 8 line2;
+  node = degreesAt 17 line2;
+  eccentricity = field 26 7 line2;
+  perigee = degreesAt 34 line2;
+  anomaly = degreesAt 43 line2;
+  motion = field 52 2 line2 * 100000000 + field 55 8 line2;
+  revolution = field 63 5 line2;
+}
+
+-- a verdict on two lines, with their fields
+abbrev pub formed : Verdict → Record → Form
+formed verdict.Lawful r = form.Fields r
+formed (verdict.Refused why) r = form.Refused why
+
+unfoldable pub formOf : List ℕ → List ℕ → Form
+formOf line1 line2 = formed (pairOf line1 line2) (fieldsOf line1 line2)
+
+-- day from 1 up to, but not including, 367
+unfoldable pub dayInRange : ℕ → Bool
+dayInRange day = leb 100000000 day && ltb day 36700000000
+
+-- inclination at most 180.0000; other angles below 360.0000; mean motion above 0: refusal 6, in column order
+unfoldable pub rangesOf : Record → Reading
+rangesOf r =
+    unless (dayInRange (r .day)) (reading.Refused (Range Day))
+    (unless (leb (r .inclination) 1800000) (reading.Refused (Range Inclination))
+    (unless (ltb (r .node) 3600000) (reading.Refused (Range Node))
+    (unless (ltb (r .perigee) 3600000) (reading.Refused (Range Perigee))
+    (unless (ltb (r .anomaly) 3600000) (reading.Refused (Range Anomaly))
+    (unless (ltb 0 (r .motion)) (reading.Refused (Range Motion)) (reading.Record r))))))
+
+-- what the form gives, by its ranges
+abbrev pub ranged : Form → Reading
+ranged (form.Fields r) = rangesOf r
+ranged (form.Refused why) = reading.Refused why
+
+unfoldable pub readOf : List ℕ → List ℕ → Reading
+readOf line1 line2 = ranged (formOf line1 line2)
