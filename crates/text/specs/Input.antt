@@ -2,11 +2,13 @@
 use Prim.Native.Nat.{ℕ, _+_}
 use mathlib.Core.Path.{_≡_}
 use mathlib.Core.List.{List, [], _∷_}
-use mathlib.Core.Bool.{cond}
+use mathlib.Core.Bool.{Bool, true, false, cond}
 use lib.Dec.{ltb, eqb}
-use lib.ListN.{take, set, replicate}
+use lib.ListN.{length, take, set, replicate}
 use Rattle.text.specs.declared.input.Line.{Line}
 use Rattle.text.specs.declared.input.Lines.{Lines}
+use Rattle.text.specs.declared.input.Gathered.{Gathered}
+use Rattle.text.specs.Output.{Put}
 
 -- a line ends before a newline or with the input
 unfoldable pub lineOf : List ℕ → List ℕ
@@ -17,6 +19,11 @@ lineOf (b ∷ bs) = cond (eqb b 10) [] (b ∷ lineOf bs)
 unfoldable pub restOf : List ℕ → List ℕ
 restOf [] = []
 restOf (b ∷ bs) = cond (eqb b 10) bs (restOf bs)
+
+-- whether a newline ends the first line
+unfoldable pub endedIn : List ℕ → Bool
+endedIn [] = false
+endedIn (b ∷ bs) = cond (eqb b 10) true (endedIn bs)
 
 -- the two lines of an input; a missing line has no bytes, and later input is ignored
 abbrev pub line1 : List ℕ → List ℕ
@@ -66,3 +73,10 @@ held l = take (l .size) (l .bytes)
 pub record More (s r : Lines) : Type 0 where
   pub piece : List ℕ
   pub is : r ≡ fed s piece
+
+-- What gathering does with the rest of a piece from an index on: the bytes before a newline are put behind those that the
+-- line has, and the next index lies behind them and the newline.
+pub record Gathering (line : List ℕ) (size : ℕ) (rest : List ℕ) (from : ℕ) (after : List ℕ) (r : Gathered) : Type 0 where
+  pub put : Put line size (lineOf rest) after (r .size)
+  pub next : r .next ≡ from + length (lineOf rest) + cond (endedIn rest) 1 0
+  pub ended : r .ended ≡ endedIn rest

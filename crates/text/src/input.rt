@@ -1,8 +1,10 @@
-// The first two lines of an input that comes in pieces of any size. A line is ended by a newline or by
-// the end of the input, and of each its first 70 bytes are kept: enough to tell a line of 69 from a
-// longer one.
+// Lines from an input that comes in pieces of any size. A line is ended by a newline or by the end of
+// the input. `Lines` holds the first two by value, and of each its first 70 bytes: enough to tell a
+// line of 69 from a longer one. `gather` puts lines of any number into a lent buffer, one at a time.
 ghost use mathlib.Core.Path.{_≡_};
-ghost use Rattle.text.specs.Input.{started, pushed, stepped, fed};
+ghost use lib.ListN.{drop};
+ghost use Rattle.text.specs.Input.{started, pushed, stepped, fed, Gathering};
+use crate::output::put_byte;
 
 pub struct Line {
     pub bytes: [u8; 70],
@@ -99,5 +101,38 @@ impl Lines {
             i += 1;
         }
         lines
+    }
+}
+
+// How many bytes a line has so far, with those that its buffer has no room for; the index in the
+// piece that comes next; and whether a newline ended the line.
+pub struct Gathered {
+    pub size: usize,
+    pub next: usize,
+    pub ended: bool,
+}
+
+// Adds to a line that has `size` bytes so far the bytes of a piece from an index on, up to a newline.
+pub fn gather(line: &mut [u8], size: usize, piece: &[u8], from: usize) -> Gathered
+    ensures { λ r. ⌜ Gathering (now (line .entry)) size (drop from (now (piece .entry))) from (now (line .exit)) r ⌝ }
+{
+    let mut size = size;
+    let mut i = from;
+    while i < piece.len() {
+        let byte = piece[i];
+        if byte == b'\n' {
+            return Gathered {
+                size,
+                next: i + 1,
+                ended: true,
+            };
+        }
+        size = put_byte(line, size, byte);
+        i += 1;
+    }
+    Gathered {
+        size,
+        next: i,
+        ended: false,
     }
 }
