@@ -1,0 +1,20 @@
+//! An independent port of documents 01 and 002, written from the papers alone.
+//!
+//! The proved library is compared with it bit for bit, and timed against it.
+//! To be of use for that it shares nothing with the proved code: neither text
+//! nor order of work. Where the papers leave a point open, both follow
+//! docs/DECISIONS.md.
+//!
+//! - [`elementary`]: document 01's functions, and the system's.
+//! - [`instant`]: the calendar, minutes, Julian dates, the Greenwich angle.
+//! - [`tle`]: reading, writing and printing two-line sets.
+//! - [`sgp4`]: 002's model.
+//! - [`request`]: opening, single requests and lists, the saved position.
+//! - [`random`]: seeded random numbers for the tests.
+
+pub mod elementary;
+pub mod instant;
+pub mod random;
+pub mod request;
+pub mod sgp4;
+pub mod tle;

@@ -1,0 +1,476 @@
+//! Two-line element sets (document 01, "The two lines" and "One pair, printed").
+
+use crate::instant;
+
+pub const LENGTH: usize = 69;
+
+/// A field whose range a pair may break, in column order.
+#[derive(Clone, Copy, Debug, PartialEq, Eq)]
+pub enum Field {
+    Day,
+    Inclination,
+    Node,
+    Perigee,
+    Anomaly,
+    Motion,
+}
+
+/// Why a pair is not read, with what comes back.
+#[derive(Clone, Copy, Debug, PartialEq, Eq)]
+pub enum Refusal {
+    /// 1: a line isn't 69 bytes.
+    Length { line: u8 },
+    /// 2: column 1 wrong.
+    FirstColumn { line: u8 },
+    /// 3: a column breaks the layout.
+    Layout { line: u8, column: u8 },
+    /// 4: the checksum differs.
+    Checksum { line: u8 },
+    /// 5: the catalogue numbers differ.
+    Numbers,
+    /// 6: a range is broken.
+    Range(Field),
+}
+
+impl Refusal {
+    pub fn number(self) -> u8 {
+        match self {
+            Refusal::Length { .. } => 1,
+            Refusal::FirstColumn { .. } => 2,
+            Refusal::Layout { .. } => 3,
+            Refusal::Checksum { .. } => 4,
+            Refusal::Numbers => 5,
+            Refusal::Range(_) => 6,
+        }
+    }
+}
+
+/// A signed five-digit mantissa, point understood before it, and an exponent of ten.
+#[derive(Clone, Copy, Debug, PartialEq, Eq)]
+pub struct Exponential {
+    pub mantissa: i32,
+    pub exponent: i8,
+}
+
+/// A pair as read: each field a whole number in its last decimal place.
+#[derive(Clone, Copy, Debug, PartialEq, Eq)]
+pub struct Record {
+    pub number: u32,
+    pub classification: u8,
+    pub designator: [u8; 8],
+    /// The year in full.
+    pub year: u16,
+    /// The day of the year, in 10^-8 days.
+    pub day: u64,
+    pub ndot: i32,
+    pub nddot: Exponential,
+    pub bstar: Exponential,
+    pub ephemeris: u8,
+    pub set: u16,
+    pub inclination: u32,
+    pub node: u32,
+    pub eccentricity: u32,
+    pub perigee: u32,
+    pub anomaly: u32,
+    pub motion: u64,
+    pub revolution: u32,
+}
+
+// ---------------------------------------------------------------- reading
+
+/// Walks a line from the left and remembers the first column that breaks the layout.
+struct Columns<'a> {
+    line: &'a [u8],
+    which: u8,
+    next: usize,
+}
+
+impl<'a> Columns<'a> {
+    fn refuse(&self) -> Refusal {
+        Refusal::Layout { line: self.which, column: self.next as u8 + 1 }
+    }
+
+    fn take(&mut self, lawful: impl Fn(u8) -> bool) -> Result<u8, Refusal> {
+        let byte = self.line[self.next];
+        if !lawful(byte) {
+            return Err(self.refuse());
+        }
+        self.next += 1;
+        Ok(byte)
+    }
+
+    fn one(&mut self, byte: u8) -> Result<(), Refusal> {
+        self.take(|b| b == byte).map(|_| ())
+    }
+
+    fn blank(&mut self) -> Result<(), Refusal> {
+        self.one(b' ')
+    }
+
+    fn digit(&mut self) -> Result<u64, Refusal> {
+        self.take(|b| b.is_ascii_digit()).map(|b| (b - b'0') as u64)
+    }
+
+    /// Digits after those already read.
+    fn digits(&mut self, count: usize, before: u64) -> Result<u64, Refusal> {
+        (0..count).try_fold(before, |n, _| Ok(10 * n + self.digit()?))
+    }
+
+    /// Right-set places: blanks, then digits to the last place.
+    fn right_set(&mut self, width: usize) -> Result<u64, Refusal> {
+        let last = self.next + width - 1;
+        while self.next < last && self.line[self.next] == b' ' {
+            self.next += 1;
+        }
+        let left = last + 1 - self.next;
+        self.digits(left, 0)
+    }
+
+    fn sign(&mut self) -> Result<i32, Refusal> {
+        Ok(if self.take(|b| matches!(b, b' ' | b'+' | b'-'))? == b'-' { -1 } else { 1 })
+    }
+
+    /// Right-set places, a point, and decimals.
+    fn decimal(&mut self, width: usize, decimals: usize) -> Result<u64, Refusal> {
+        let whole = self.right_set(width)?;
+        self.one(b'.')?;
+        self.digits(decimals, whole)
+    }
+
+    fn exponential(&mut self) -> Result<Exponential, Refusal> {
+        let sign = self.sign()?;
+        let mantissa = sign * self.digits(5, 0)? as i32;
+        let negative = self.take(|b| matches!(b, b'+' | b'-'))? == b'-';
+        let exponent = self.digit()? as i8;
+        Ok(match (mantissa, negative) {
+            (0, _) => Exponential { mantissa, exponent: 0 },
+            (_, true) => Exponential { mantissa, exponent: -exponent },
+            (_, false) => Exponential { mantissa, exponent },
+        })
+    }
+
+    /// Eight blanks, or five digits, a letter, and two places of letters, then blanks.
+    fn designator(&mut self) -> Result<[u8; 8], Refusal> {
+        let mut text = [b' '; 8];
+        if self.line[self.next] == b' ' {
+            for _ in 0..8 {
+                self.blank()?;
+            }
+            return Ok(text);
+        }
+        for place in &mut text[..5] {
+            *place = self.take(|b| b.is_ascii_digit())?;
+        }
+        text[5] = self.take(|b| b.is_ascii_uppercase())?;
+        text[6] = self.take(|b| b == b' ' || b.is_ascii_uppercase())?;
+        let after_blank = text[6] == b' ';
+        text[7] = self.take(|b| b == b' ' || (!after_blank && b.is_ascii_uppercase()))?;
+        Ok(text)
+    }
+}
+
+/// Columns 1-68: a digit adds itself, `-` adds 1, modulo 10.
+pub fn checksum(line: &[u8]) -> u8 {
+    let sum: u32 = line[..LENGTH - 1]
+        .iter()
+        .map(|&b| match b {
+            b'0'..=b'9' => (b - b'0') as u32,
+            b'-' => 1,
+            _ => 0,
+        })
+        .sum();
+    (sum % 10) as u8
+}
+
+fn columns(line: &[u8], which: u8) -> Result<Columns<'_>, Refusal> {
+    if line.len() != LENGTH {
+        return Err(Refusal::Length { line: which });
+    }
+    if line[0] != b'0' + which {
+        return Err(Refusal::FirstColumn { line: which });
+    }
+    Ok(Columns { line, which, next: 1 })
+}
+
+fn close(mut columns: Columns<'_>) -> Result<(), Refusal> {
+    let written = columns.digit()?;
+    if checksum(columns.line) as u64 != written {
+        return Err(Refusal::Checksum { line: columns.which });
+    }
+    Ok(())
+}
+
+/// Line 1's part of a record.
+fn read_line_1(line: &[u8], record: &mut Record) -> Result<(), Refusal> {
+    let mut c = columns(line, 1)?;
+    c.blank()?;
+    record.number = c.digits(5, 0)? as u32;
+    record.classification = c.take(|b| matches!(b, b'U' | b'C' | b'S'))?;
+    c.blank()?;
+    record.designator = c.designator()?;
+    c.blank()?;
+    let year = c.digits(2, 0)? as u16;
+    record.year = if year < 57 { 2000 + year } else { 1900 + year };
+    let day = c.digits(3, 0)?;
+    c.one(b'.')?;
+    record.day = c.digits(8, day)?;
+    c.blank()?;
+    let sign = c.sign()?;
+    c.one(b'.')?;
+    record.ndot = sign * c.digits(8, 0)? as i32;
+    c.blank()?;
+    record.nddot = c.exponential()?;
+    c.blank()?;
+    record.bstar = c.exponential()?;
+    c.blank()?;
+    record.ephemeris = c.digit()? as u8;
+    c.blank()?;
+    record.set = c.right_set(4)? as u16;
+    close(c)
+}
+
+/// Line 2's part of a record, and its catalogue number.
+fn read_line_2(line: &[u8], record: &mut Record) -> Result<u32, Refusal> {
+    let mut c = columns(line, 2)?;
+    c.blank()?;
+    let number = c.digits(5, 0)? as u32;
+    c.blank()?;
+    record.inclination = c.decimal(3, 4)? as u32;
+    c.blank()?;
+    record.node = c.decimal(3, 4)? as u32;
+    c.blank()?;
+    record.eccentricity = c.digits(7, 0)? as u32;
+    c.blank()?;
+    record.perigee = c.decimal(3, 4)? as u32;
+    c.blank()?;
+    record.anomaly = c.decimal(3, 4)? as u32;
+    c.blank()?;
+    record.motion = c.decimal(2, 8)?;
+    record.revolution = c.right_set(5)? as u32;
+    close(c)?;
+    Ok(number)
+}
+
+/// The first field out of range, in column order.
+fn broken_range(record: &Record) -> Option<Field> {
+    let faults = [
+        (Field::Day, !(1_0000_0000..367_0000_0000).contains(&record.day)),
+        (Field::Inclination, record.inclination > 180_0000),
+        (Field::Node, record.node >= 360_0000),
+        (Field::Perigee, record.perigee >= 360_0000),
+        (Field::Anomaly, record.anomaly >= 360_0000),
+        (Field::Motion, record.motion == 0),
+    ];
+    faults.into_iter().find(|(_, broken)| *broken).map(|(field, _)| field)
+}
+
+/// Reads a pair of lines.
+pub fn read(line1: &[u8], line2: &[u8]) -> Result<Record, Refusal> {
+    let mut record = EMPTY;
+    read_line_1(line1, &mut record)?;
+    let number = read_line_2(line2, &mut record)?;
+    if number != record.number {
+        return Err(Refusal::Numbers);
+    }
+    match broken_range(&record) {
+        Some(field) => Err(Refusal::Range(field)),
+        None => Ok(record),
+    }
+}
+
+const EMPTY: Record = Record {
+    number: 0,
+    classification: b'U',
+    designator: [b' '; 8],
+    year: 0,
+    day: 0,
+    ndot: 0,
+    nddot: Exponential { mantissa: 0, exponent: 0 },
+    bstar: Exponential { mantissa: 0, exponent: 0 },
+    ephemeris: 0,
+    set: 0,
+    inclination: 0,
+    node: 0,
+    eccentricity: 0,
+    perigee: 0,
+    anomaly: 0,
+    motion: 0,
+    revolution: 0,
+};
+
+// ---------------------------------------------------------------- writing
+
+impl Exponential {
+    fn lawful(self) -> bool {
+        self.mantissa.unsigned_abs() <= 99_999
+            && self.exponent.unsigned_abs() <= 9
+            && (self.mantissa != 0 || self.exponent == 0)
+    }
+}
+
+fn lawful_designator(text: &[u8; 8]) -> bool {
+    if text == b"        " {
+        return true;
+    }
+    let (digits, letters) = text.split_at(5);
+    let filled = letters.iter().take_while(|b| b.is_ascii_uppercase()).count();
+    digits.iter().all(u8::is_ascii_digit) && filled >= 1 && letters[filled..].iter().all(|&b| b == b' ')
+}
+
+impl Record {
+    /// Inside layout and ranges; refusal 16 otherwise.
+    pub fn lawful(&self) -> bool {
+        self.number <= 99_999
+            && matches!(self.classification, b'U' | b'C' | b'S')
+            && lawful_designator(&self.designator)
+            && (1957..=2056).contains(&self.year)
+            && self.ndot.unsigned_abs() <= 9999_9999
+            && self.nddot.lawful()
+            && self.bstar.lawful()
+            && self.ephemeris <= 9
+            && self.set <= 9999
+            && self.eccentricity <= 999_9999
+            && self.motion <= 99_9999_9999
+            && self.revolution <= 99_999
+            && broken_range(self).is_none()
+    }
+
+    /// The epoch as an instant: every lawful record's lies inside the calendar.
+    pub fn epoch(&self) -> i64 {
+        instant::from_epoch(self.year as i64, self.day as i64).expect("a lawful record")
+    }
+}
+
+fn sign_of(negative: bool) -> char {
+    if negative {
+        '-'
+    } else {
+        ' '
+    }
+}
+
+fn exponential_text(x: Exponential) -> String {
+    let exponent_sign = if x.exponent > 0 { '+' } else { '-' };
+    format!(
+        "{}{:05}{}{}",
+        sign_of(x.mantissa < 0),
+        x.mantissa.unsigned_abs(),
+        exponent_sign,
+        x.exponent.unsigned_abs()
+    )
+}
+
+fn decimal_text(n: u64, width: usize, decimals: u32) -> String {
+    let unit = 10u64.pow(decimals);
+    format!("{:width$}.{:0places$}", n / unit, n % unit, places = decimals as usize)
+}
+
+fn angle_text(n: u32) -> String {
+    decimal_text(n as u64, 3, 4)
+}
+
+/// Writes line 1 or 2 to the front of the room lent; refusals 16, 17.
+pub fn write(record: &Record, which: u8, room: &mut [u8]) -> Result<(), u8> {
+    if !record.lawful() {
+        return Err(16);
+    }
+    if room.len() < LENGTH {
+        return Err(17);
+    }
+    let text = if which == 1 {
+        format!(
+            "1 {:05}{} {} {:02}{:03}.{:08} {}.{:08} {} {} {} {:4}",
+            record.number,
+            record.classification as char,
+            String::from_utf8_lossy(&record.designator),
+            record.year % 100,
+            record.day / 1_0000_0000,
+            record.day % 1_0000_0000,
+            sign_of(record.ndot < 0),
+            record.ndot.unsigned_abs(),
+            exponential_text(record.nddot),
+            exponential_text(record.bstar),
+            record.ephemeris,
+            record.set,
+        )
+    } else {
+        format!(
+            "2 {:05} {} {} {:07} {} {} {}{:5}",
+            record.number,
+            angle_text(record.inclination),
+            angle_text(record.node),
+            record.eccentricity,
+            angle_text(record.perigee),
+            angle_text(record.anomaly),
+            decimal_text(record.motion, 2, 8),
+            record.revolution,
+        )
+    };
+    room[..LENGTH - 1].copy_from_slice(text.as_bytes());
+    room[LENGTH - 1] = b'0' + checksum(room);
+    Ok(())
+}
+
+/// A line as an array.
+pub fn written(record: &Record, which: u8) -> Result<[u8; LENGTH], u8> {
+    let mut line = [0; LENGTH];
+    write(record, which, &mut line).map(|_| line)
+}
+
+// --------------------------------------------------------------- printing
+
+/// What the program prints for a pair.
+pub fn print(line1: &[u8], line2: &[u8]) -> String {
+    let record = match read(line1, line2) {
+        Ok(record) => record,
+        Err(refusal) => return format!("refused {}\n", refusal.number()),
+    };
+    let designator = String::from_utf8_lossy(&record.designator).trim_end().to_string();
+    let shown = if designator.is_empty() { "-" } else { &designator };
+    let Record { number, ndot, nddot, bstar, ephemeris, set, .. } = record;
+    let Record { inclination, node, eccentricity, perigee, anomaly, motion, revolution, .. } = record;
+    let class = record.classification as char;
+    let (year, day) = (record.year, record.day / 1_0000_0000);
+    let micros = record.day % 1_0000_0000 * 864;
+    format!(
+        "number {number}\nclass {class}\ndesignator {shown}\nepoch {year} {day} {micros}\n\
+         ndot {ndot}\nnddot {} {}\nbstar {} {}\ntype {ephemeris}\nset {set}\n\
+         inclination {inclination}\nnode {node}\neccentricity {eccentricity}\nperigee {perigee}\n\
+         anomaly {anomaly}\nmotion {motion}\nrevolution {revolution}\n",
+        nddot.mantissa, nddot.exponent, bstar.mantissa, bstar.exponent
+    )
+}
+
+#[cfg(test)]
+mod tests {
+    use super::*;
+
+    const LINE1: &[u8] = b"1 00005U 58002B   00179.78495062  .00000023  00000-0  28098-4 0  4753";
+    const LINE2: &[u8] = b"2 00005  34.2682 348.7242 1859667 331.7664  19.3264 10.82419157413667";
+    const PRINTED: &str = "number 5\nclass U\ndesignator 58002B\nepoch 2000 179 67819733568\nndot 23\n\
+        nddot 0 0\nbstar 28098 -4\ntype 0\nset 475\ninclination 342682\nnode 3487242\n\
+        eccentricity 1859667\nperigee 3317664\nanomaly 193264\nmotion 1082419157\nrevolution 41366\n";
+
+    #[test]
+    fn example_is_read_written_and_printed() {
+        let record = read(LINE1, LINE2).unwrap();
+        assert_eq!(written(&record, 1).unwrap(), LINE1);
+        assert_eq!(written(&record, 2).unwrap(), LINE2);
+        assert_eq!(print(LINE1, LINE2), PRINTED);
+        assert_eq!(print(LINE1, &LINE2[..68]), "refused 1\n");
+    }
+
+    #[test]
+    fn edges_of_document_01() {
+        let mut comma = LINE2.to_vec();
+        comma[11] = b',';
+        assert_eq!(read(LINE1, &comma), Err(Refusal::Layout { line: 2, column: 12 }));
+        assert_eq!(read(&LINE1[..68], LINE2), Err(Refusal::Length { line: 1 }));
+        let record = read(LINE1, LINE2).unwrap();
+        assert_eq!(written(&Record { inclination: 180_0001, ..record }, 1), Err(16));
+        assert_eq!(written(&Record { year: 2057, ..record }, 2), Err(16));
+        assert_eq!(write(&record, 1, &mut [0; 68]), Err(17));
+        let zero = Exponential { mantissa: 0, exponent: 3 };
+        assert!(!Record { bstar: zero, ..record }.lawful());
+    }
+}

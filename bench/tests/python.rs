@@ -1,0 +1,107 @@
+//! The port against the Python programs in tests/, written apart from it: the
+//! reader of two-line sets over whole and damaged pairs, and the arithmetic on
+//! instants. Two independent readings of document 01 have to agree before the
+//! proved code is held against either.
+
+use port::instant;
+use port::tle::{self, Field, Refusal};
+use std::path::{Path, PathBuf};
+use std::process::Command;
+
+fn python(arguments: &[&str]) -> Vec<u8> {
+    let root = Path::new(env!("CARGO_MANIFEST_DIR")).parent().unwrap();
+    let output = Command::new("python3").args(arguments).current_dir(root).output().expect("python3");
+    assert!(output.status.success(), "{}", String::from_utf8_lossy(&output.stderr));
+    output.stdout
+}
+
+fn answer(line1: &[u8], line2: &[u8]) -> String {
+    let field = |field| match field {
+        Field::Day => "day",
+        Field::Inclination => "inclination",
+        Field::Node => "node",
+        Field::Perigee => "perigee",
+        Field::Anomaly => "anomaly",
+        Field::Motion => "motion",
+    };
+    match tle::read(line1, line2) {
+        Ok(_) => "ok".to_string(),
+        Err(refusal) => match refusal {
+            Refusal::Length { line } => format!("refused 1 {line}"),
+            Refusal::FirstColumn { line } => format!("refused 2 {line}"),
+            Refusal::Layout { line, column } => format!("refused 3 {line} {column}"),
+            Refusal::Checksum { line } => format!("refused 4 {line}"),
+            Refusal::Numbers => "refused 5".to_string(),
+            Refusal::Range(which) => format!("refused 6 {}", field(which)),
+        },
+    }
+}
+
+/// Reads the pairs the Python program wrote; every whole one is also written
+/// back, and the lines written read as the same record.
+fn compare_pairs(seed: &str, random: &str) {
+    let folder = PathBuf::from(env!("CARGO_TARGET_TMPDIR"));
+    let input = folder.join(format!("pairs-{seed}.txt"));
+    let expected = folder.join(format!("answers-{seed}.txt"));
+    let (i, e) = (input.to_str().unwrap(), expected.to_str().unwrap());
+    python(&["tests/tle_pairs.py", "--write", i, e, "--seed", seed, "--random", random]);
+    let input = std::fs::read(&input).unwrap();
+    let expected = std::fs::read_to_string(&expected).unwrap();
+    let mut lines = input.split(|&b| b == b'\n');
+    let mut count = 0;
+    for want in expected.lines() {
+        let (line1, line2) = (lines.next().unwrap(), lines.next().unwrap());
+        let shown = (String::from_utf8_lossy(line1), String::from_utf8_lossy(line2));
+        assert_eq!(answer(line1, line2), want, "{shown:?}");
+        if let Ok(record) = tle::read(line1, line2) {
+            assert!(record.lawful(), "{shown:?}");
+            let (one, two) = (tle::written(&record, 1).unwrap(), tle::written(&record, 2).unwrap());
+            assert_eq!(tle::read(&one, &two), Ok(record), "{shown:?}");
+        }
+        count += 1;
+    }
+    println!("{count} pairs");
+    assert!(count >= 500);
+}
+
+#[test]
+fn pairs() {
+    compare_pairs("58002", "200");
+}
+
+#[test]
+fn more_random_pairs() {
+    compare_pairs("2718", "3000");
+}
+
+#[test]
+fn instants() {
+    let text = String::from_utf8(python(&["tests/instant_cases.py"])).unwrap();
+    let mut count = 0;
+    for line in text.lines() {
+        let words: Vec<&str> = line.split(' ').collect();
+        let n: Vec<i64> = words[1..].iter().map(|w| u64::from_str_radix(w, 16).unwrap() as i64).collect();
+        let bits = |x: f64| x.to_bits() as i64;
+        let results: Vec<i64> = match words[0] {
+            "epoch" => match instant::from_epoch(n[0], n[1]) {
+                Some(instant) => vec![1, instant],
+                None => vec![0, 0],
+            },
+            "split" => {
+                let (year, day, micros) = instant::split(n[0]);
+                vec![year, day, micros]
+            }
+            "move" => match instant::moved(n[0], n[1]) {
+                Ok(instant) => vec![0, instant],
+                Err(refusal) => vec![refusal as i64, 0],
+            },
+            "minutes" => vec![bits(instant::minutes(n[0]))],
+            "jd" => vec![bits(instant::epoch_days(n[0]) + 2433281.5)],
+            "gst" => vec![bits(instant::gstime(instant::epoch_days(n[0]) + 2433281.5))],
+            other => panic!("no operation {other}"),
+        };
+        assert_eq!(results, n[n.len() - results.len()..], "{line}");
+        count += 1;
+    }
+    assert!(count >= 600, "{count}");
+}
