@@ -10,10 +10,12 @@
 //! - [`tle`]: reading, writing and printing two-line sets.
 //! - [`sgp4`]: 002's model.
 //! - [`request`]: opening, single requests and lists, the saved position.
+//! - [`published`]: the pairs of 002's test set.
 //! - [`random`]: seeded random numbers for the tests.
 
 pub mod elementary;
 pub mod instant;
+pub mod published;
 pub mod random;
 pub mod request;
 pub mod sgp4;

@@ -10,12 +10,9 @@ use port::tle;
 const MINUTE: i64 = 60_000_000;
 
 fn published() -> Vec<Satellite<Document>> {
-    let text = std::fs::read(concat!(env!("CARGO_MANIFEST_DIR"), "/vectors/SGP4-VER.TLE")).unwrap();
-    let lines: Vec<&[u8]> =
-        text.split(|&b| b == b'\n').filter(|line| matches!(line.first(), Some(b'1' | b'2'))).collect();
-    lines
-        .chunks(2)
-        .filter_map(|pair| tle::read(&pair[0][..69], &pair[1][..69]).ok())
+    port::published::pairs()
+        .iter()
+        .filter_map(|(line1, line2)| tle::read(line1, line2).ok())
         .filter_map(|record| Satellite::open(&record).ok())
         .collect()
 }
