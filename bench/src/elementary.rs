@@ -4,6 +4,11 @@
 //! [`Libm`] is the system's mathematical library and the processor's square
 //! root: what an ordinary port of 002 uses. Only the first is the law; the
 //! second is here to be timed, and to show how far apart the two lie.
+//!
+//! [`DocumentProcessor`] is the first with the processor's square root, which
+//! is the same function (tested below): document 01 as fast as it can be had.
+
+use std::marker::PhantomData;
 
 /// Pi is the nearest f64.
 pub const PI: f64 = std::f64::consts::PI;
@@ -13,6 +18,8 @@ pub const HALF_PI: f64 = PI / 2.0;
 
 /// What 002 calls from `math.h`, apart from `fmod` and `fabs`, which are exact.
 pub trait Elementary {
+    /// How a table names the mode.
+    const NAME: &'static str;
     fn sqrt(x: f64) -> f64;
     fn sin_cos(x: f64) -> (f64, f64);
     fn sin(x: f64) -> f64;
@@ -33,9 +40,41 @@ pub fn fmod(x: f64, y: f64) -> f64 {
 
 // ------------------------------------------------------------ document 01
 
-/// Document 01's definitions.
+/// Document 01's definitions, over a square root R.
 #[derive(Clone, Copy, Debug)]
-pub struct Document;
+pub struct Definitions<R>(PhantomData<R>);
+
+/// Document 01, its square root by whole numbers.
+pub type Document = Definitions<ByWholeNumbers>;
+/// Document 01, its square root by the processor.
+pub type DocumentProcessor = Definitions<ByProcessor>;
+
+/// A square root.
+pub trait Root {
+    const NAME: &'static str;
+    fn sqrt(x: f64) -> f64;
+}
+
+#[derive(Clone, Copy, Debug)]
+pub struct ByWholeNumbers;
+#[derive(Clone, Copy, Debug)]
+pub struct ByProcessor;
+
+impl Root for ByWholeNumbers {
+    const NAME: &'static str = "document 01";
+
+    fn sqrt(x: f64) -> f64 {
+        square_root(x)
+    }
+}
+
+impl Root for ByProcessor {
+    const NAME: &'static str = "document 01, processor's root";
+
+    fn sqrt(x: f64) -> f64 {
+        x.sqrt()
+    }
+}
 
 /// The nearest f64 to the square root, ties to even, by whole numbers.
 ///
@@ -166,9 +205,11 @@ fn reduce(x: f64) -> (f64, bool) {
     }
 }
 
-impl Elementary for Document {
+impl<R: Root> Elementary for Definitions<R> {
+    const NAME: &'static str = R::NAME;
+
     fn sqrt(x: f64) -> f64 {
-        square_root(x)
+        R::sqrt(x)
     }
 
     fn sin_cos(x: f64) -> (f64, f64) {
@@ -248,6 +289,8 @@ impl Elementary for Document {
 pub struct Libm;
 
 impl Elementary for Libm {
+    const NAME: &'static str = "libm";
+
     fn sqrt(x: f64) -> f64 {
         x.sqrt()
     }

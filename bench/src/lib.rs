@@ -11,10 +11,15 @@
 //! - [`sgp4`]: 002's model.
 //! - [`request`]: opening, single requests and lists, the saved position.
 //! - [`published`]: the pairs of 002's test set.
-//! - [`random`]: seeded random numbers for the tests.
+//! - [`random`], [`generate`]: seeded random numbers, pairs and requests.
+//! - [`library`], [`compare`]: libraries held against each other; [`proved`] is the proved one.
 
+pub mod compare;
 pub mod elementary;
+pub mod generate;
 pub mod instant;
+pub mod library;
+pub mod proved;
 pub mod published;
 pub mod random;
 pub mod request;

@@ -1,0 +1,58 @@
+//! Holds the proved library against the port (or, while it is not linked, the
+//! port's two ways of integrating against each other), bit for bit.
+//!
+//!   compare [--seed N] [--whole N] [--damaged N] [--first N]
+//!
+//! `--whole` and `--damaged` say how many pairs of each kind (20000 each);
+//! `--first` the number of the first case, to run one again. Prints the seed,
+//! how often each branch and refusal was met, and the first difference.
+
+use port::compare::{damaged_case, whole_case, Difference, Tally};
+use port::elementary::Document;
+use port::library::{Library, Port, Restarting};
+use port::proved;
+use std::process::ExitCode;
+
+fn option(name: &str, default: u64) -> u64 {
+    let arguments: Vec<String> = std::env::args().collect();
+    match arguments.iter().position(|argument| argument == name) {
+        Some(place) => arguments
+            .get(place + 1)
+            .and_then(|text| text.parse().ok())
+            .unwrap_or_else(|| panic!("{name} NUMBER")),
+        None => default,
+    }
+}
+
+fn run() -> Result<Tally, Difference> {
+    let seed = option("--seed", 1957);
+    let (whole, damaged, first) =
+        (option("--whole", 20_000), option("--damaged", 20_000), option("--first", 0));
+    let port: Port<Document> = Port::new();
+    let other: Box<dyn Library> =
+        proved::library().unwrap_or_else(|| Box::new(Restarting::<Document>::new()));
+    println!("{} against {}", port.name(), other.name());
+    println!("seed {seed}, {whole} whole pairs, {damaged} damaged pairs, from case {first}");
+    let mut tally = Tally::default();
+    for index in first..first + whole {
+        whole_case(seed, index, (&port, other.as_ref()), &mut tally)?;
+    }
+    for index in first..first + damaged {
+        damaged_case(seed, index, (&port, other.as_ref()), &mut tally)?;
+    }
+    Ok(tally)
+}
+
+fn main() -> ExitCode {
+    match run() {
+        Ok(tally) => {
+            print!("{tally}");
+            println!("no difference");
+            ExitCode::SUCCESS
+        }
+        Err(difference) => {
+            println!("DIFFERENCE\n{difference}");
+            ExitCode::FAILURE
+        }
+    }
+}

@@ -1,0 +1,259 @@
+//! Two libraries held against each other, bit for bit, over random pairs and
+//! random sequences of requests. A case is found again by its seed and number.
+
+use crate::elementary::Document;
+use crate::generate::{self, Aim, Ask, AIMS};
+use crate::instant::DAY;
+use crate::library::{Library, Opened};
+use crate::random::Random;
+use crate::request::{Row, Satellite};
+use crate::sgp4::{self, Elements};
+use crate::tle;
+use std::collections::BTreeMap;
+
+/// How often each thing was met, by name.
+#[derive(Clone, Debug, Default)]
+pub struct Tally(pub BTreeMap<String, u64>);
+
+impl Tally {
+    fn add(&mut self, name: impl Into<String>, count: u64) {
+        *self.0.entry(name.into()).or_default() += count;
+    }
+
+    pub fn of(&self, name: &str) -> u64 {
+        self.0.get(name).copied().unwrap_or(0)
+    }
+}
+
+impl std::fmt::Display for Tally {
+    fn fmt(&self, f: &mut std::fmt::Formatter<'_>) -> std::fmt::Result {
+        for (name, count) in &self.0 {
+            writeln!(f, "{count:>10}  {name}")?;
+        }
+        Ok(())
+    }
+}
+
+/// Where the two differ.
+#[derive(Debug)]
+pub struct Difference {
+    pub case: String,
+    pub line1: String,
+    pub line2: String,
+    pub what: String,
+}
+
+impl std::fmt::Display for Difference {
+    fn fmt(&self, f: &mut std::fmt::Formatter<'_>) -> std::fmt::Result {
+        write!(f, "{}\n{}\n{}\n{}", self.case, self.line1, self.line2, self.what)
+    }
+}
+
+/// A source of random numbers for one case, so that a case can be run alone.
+fn case_random(seed: u64, kind: u64, index: u64) -> Random {
+    let mut mixed = Random::new(seed ^ kind.rotate_left(56));
+    let start = mixed.next_u64();
+    Random::new(start ^ index.wrapping_mul(0x9e37_79b9_7f4a_7c15))
+}
+
+const WHOLE: u64 = 1;
+const DAMAGED: u64 = 2;
+
+/// A row that no library writes, to see what it leaves alone.
+const MARK: Row = Row { refusal: 255, r: [1.0, 2.0, 3.0], v: [4.0, 5.0, 6.0], rounds: 77 };
+
+fn same_or(
+    what: &str,
+    same: bool,
+    one: &dyn std::fmt::Debug,
+    other: &dyn std::fmt::Debug,
+) -> Result<(), String> {
+    if same {
+        Ok(())
+    } else {
+        Err(format!("{what}:\n  {one:?}\n  {other:?}"))
+    }
+}
+
+/// The branches of the model that a pair takes, by the port.
+fn branches(line1: &[u8], line2: &[u8], tally: &mut Tally) {
+    let Ok(record) = tle::read(line1, line2) else { return };
+    let Ok(satellite) = Satellite::<Document>::open(&record) else { return };
+    let satrec = &satellite.satrec;
+    let elements = Elements::of(&record);
+    let rp = sgp4::initl::<Document>(elements.ecco, elements.epoch, elements.inclo, elements.no).rp;
+    let height = (rp - 1.0) * sgp4::RADIUSEARTHKM;
+    let kind = match (satrec.deep, satrec.irez) {
+        (false, _) => "near Earth",
+        (true, 0) => "deep space, no resonance",
+        (true, 1) => "deep space, one-day",
+        (true, _) => "deep space, half-day",
+    };
+    tally.add(format!("branch: {kind}"), 1);
+    let perigee = match height {
+        h if h < 98.0 => "perigee below 98 km",
+        h if h < 156.0 => "perigee 98 to 156 km",
+        h if h < 220.0 => "perigee 156 to 220 km",
+        _ => "perigee above 220 km",
+    };
+    tally.add(format!("branch: {perigee}"), 1);
+    if satrec.ecco <= 1.0e-4 {
+        tally.add("branch: e at most 1E-4", 1);
+    }
+    if satrec.ecco > 0.9 {
+        tally.add("branch: e above 0.9", 1);
+    }
+    if satrec.deep && satrec.inclo < 0.2 {
+        tally.add("branch: deep space, inclination below 0.2", 1);
+    }
+    if satrec.irez == 2 {
+        let range = match satrec.ecco {
+            e if e <= 0.65 => "to 0.65",
+            e if e < 0.7 => "0.65 to 0.7",
+            e if e <= 0.715 => "0.7 to 0.715",
+            _ => "above 0.715",
+        };
+        tally.add(format!("branch: half-day, e {range}"), 1);
+    }
+}
+
+/// Neighbouring times, a microsecond apart, at which the refusal changes: where
+/// one differing bit would show as another refusal.
+fn edges(random: &mut Random, line1: &[u8], line2: &[u8]) -> Vec<Ask> {
+    let Ok(record) = tle::read(line1, line2) else { return vec![] };
+    let Ok(satellite) = Satellite::<Document>::open(&record) else { return vec![] };
+    let refusal = |micros| satellite.request_restarting(micros).refusal;
+    let reach = *random.pick(&[DAY / 4, 4 * DAY, 40 * DAY]);
+    let mut times: Vec<i64> = (0..12).map(|_| random.between(-reach, reach)).collect();
+    times.sort();
+    let mut asks = vec![];
+    for pair in times.windows(2) {
+        let (mut low, mut high) = (pair[0], pair[1]);
+        let before = refusal(low);
+        if before == refusal(high) {
+            continue;
+        }
+        while high - low > 1 {
+            let middle = low + (high - low) / 2;
+            if refusal(middle) == before {
+                low = middle;
+            } else {
+                high = middle;
+            }
+        }
+        asks.extend([Ask::One(low), Ask::One(high)]);
+    }
+    asks
+}
+
+fn ask_both(
+    ask: &Ask,
+    one: &mut dyn Opened,
+    other: &mut dyn Opened,
+    tally: &mut Tally,
+) -> Result<(), String> {
+    match ask {
+        Ask::One(micros) => {
+            let (a, b) = (one.request(*micros), other.request(*micros));
+            tally.add(format!("row: refusal {:>2}", a.0.refusal), 1);
+            tally.add("strides", a.1);
+            same_or(&format!("time {micros}"), a.0.same(&b.0) && a.1 == b.1, &a, &b)
+        }
+        Ask::List { times, room } => {
+            let (mut rows, mut others) = (vec![MARK; *room], vec![MARK; *room]);
+            let (a, b) = (one.list(times, &mut rows), other.list(times, &mut others));
+            match a {
+                Ok(strides) => {
+                    tally.add("strides", strides);
+                    tally.add("list: answered", 1);
+                    for row in &rows[..times.len()] {
+                        tally.add(format!("row: refusal {:>2}", row.refusal), 1);
+                    }
+                }
+                Err(refusal) => tally.add(format!("list: refusal {refusal}"), 1),
+            }
+            same_or(&format!("list {times:?}, room {room}"), a == b, &a, &b)?;
+            for (place, (x, y)) in rows.iter().zip(&others).enumerate() {
+                same_or(&format!("list {times:?}, row {place}"), x.same(y), x, y)?;
+            }
+            let written = if a.is_ok() { times.len() } else { 0 };
+            let left = rows[written..].iter().all(|row| row.same(&MARK));
+            same_or(&format!("list {times:?}: rows past the last"), left, &rows, &MARK)
+        }
+    }
+}
+
+fn compare_pair(
+    random: &mut Random,
+    line1: &[u8],
+    line2: &[u8],
+    libraries: (&dyn Library, &dyn Library),
+    tally: &mut Tally,
+) -> Result<(), String> {
+    let (one, other) = libraries;
+    let (a, b) = (one.read(line1, line2), other.read(line1, line2));
+    match a {
+        Ok(()) => tally.add("read: accepted", 1),
+        Err(refusal) => tally.add(format!("read: refusal {}", refusal.number()), 1),
+    }
+    same_or("reading", a == b, &a, &b)?;
+    let (a, b) = (one.print(line1, line2), other.print(line1, line2));
+    let text = |bytes: &[u8]| String::from_utf8_lossy(bytes).into_owned();
+    same_or("printing", a == b, &text(&a), &text(&b))?;
+    match (one.open(line1, line2), other.open(line1, line2)) {
+        (Ok(mut a), Ok(mut b)) => {
+            tally.add("open: opened", 1);
+            branches(line1, line2, tally);
+            let mut asks = generate::sequence(random);
+            if random.one_in(3) {
+                let edges = edges(random, line1, line2);
+                tally.add("times at which the refusal changes", edges.len() as u64 / 2);
+                asks.extend(edges);
+            }
+            asks.iter().try_for_each(|ask| ask_both(ask, a.as_mut(), b.as_mut(), tally))
+        }
+        (a, b) => {
+            let (a, b) = (a.err(), b.err());
+            if let Some(refusal) = a {
+                tally.add(format!("open: refusal {refusal}"), 1);
+            }
+            same_or("opening", a == b, &a, &b)
+        }
+    }
+}
+
+/// Case `index` of the whole pairs.
+pub fn whole_case(
+    seed: u64,
+    index: u64,
+    libraries: (&dyn Library, &dyn Library),
+    tally: &mut Tally,
+) -> Result<(), Difference> {
+    let mut random = case_random(seed, WHOLE, index);
+    let aim: Aim = AIMS[index as usize % AIMS.len()];
+    let (line1, line2) = generate::pair(&mut random, aim);
+    tally.add(format!("aim: {aim:?}"), 1);
+    compare_pair(&mut random, &line1, &line2, libraries, tally).map_err(|what| Difference {
+        case: format!("seed {seed}, whole pair {index} ({aim:?})"),
+        line1: line1.escape_ascii().to_string(),
+        line2: line2.escape_ascii().to_string(),
+        what,
+    })
+}
+
+/// Case `index` of the damaged pairs.
+pub fn damaged_case(
+    seed: u64,
+    index: u64,
+    libraries: (&dyn Library, &dyn Library),
+    tally: &mut Tally,
+) -> Result<(), Difference> {
+    let mut random = case_random(seed, DAMAGED, index);
+    let (line1, line2) = generate::damaged_pair(&mut random);
+    compare_pair(&mut random, &line1, &line2, libraries, tally).map_err(|what| Difference {
+        case: format!("seed {seed}, damaged pair {index}"),
+        line1: line1.escape_ascii().to_string(),
+        line2: line2.escape_ascii().to_string(),
+        what,
+    })
+}

@@ -1,0 +1,399 @@
+//! Seeded random pairs, whole and damaged, over every branch of the model, and
+//! random sequences of requests.
+
+use crate::instant::{DAY, SPAN_LIMIT};
+use crate::random::Random;
+use crate::request::{LIST_LIMIT, STRIDE};
+use crate::sgp4::{RADIUSEARTHKM, XKE};
+use crate::tle::{self, Exponential, Record, LENGTH};
+
+pub type Line = [u8; LENGTH];
+
+/// What a pair is drawn for. The drawing aims at the branch; what the model
+/// then takes is counted after opening.
+#[derive(Clone, Copy, Debug, PartialEq, Eq, PartialOrd, Ord)]
+pub enum Aim {
+    /// Near Earth, perigee above 220 km: the full drag equations.
+    Near,
+    /// Near Earth, perigee around 156 to 220, 98 to 156, and below 98 km.
+    Perigee220,
+    Perigee156,
+    Perigee98,
+    /// Eccentricity below, at and above 1E-4.
+    Circular,
+    Deep,
+    OneDay,
+    /// Eccentricity 0.5 and more, over the limits 0.65, 0.7 and 0.715.
+    HalfDay,
+    /// Periods around 225 minutes and mean motions around the resonances' limits.
+    Limits,
+    /// Deep space below 0.2 rad and below 3 degrees: Lyddane's form.
+    LowInclination,
+    HighEccentricity,
+    /// 180.0000 degrees and just below.
+    Retrograde,
+    /// Heavy drag: most of the refusals 10-14.
+    Decaying,
+    /// Every field uniform over all that its columns can hold.
+    Anything,
+}
+
+pub const AIMS: [Aim; 14] = [
+    Aim::Near,
+    Aim::Perigee220,
+    Aim::Perigee156,
+    Aim::Perigee98,
+    Aim::Circular,
+    Aim::Deep,
+    Aim::OneDay,
+    Aim::HalfDay,
+    Aim::Limits,
+    Aim::LowInclination,
+    Aim::HighEccentricity,
+    Aim::Retrograde,
+    Aim::Decaying,
+    Aim::Anything,
+];
+
+// ------------------------------------------------------------------ records
+
+/// Mean motion in 10^-8 revolutions a day, from radians a minute.
+fn motion(radians_per_minute: f64) -> u64 {
+    let revolutions = radians_per_minute * 1440.0 / (2.0 * std::f64::consts::PI);
+    ((revolutions * 1e8) as u64).clamp(1, 99_9999_9999)
+}
+
+/// The mean motion that puts the perigee at a height, for an eccentricity.
+fn motion_for_perigee(kilometres: f64, eccentricity: u32) -> u64 {
+    let e = eccentricity as f64 / 1e7;
+    let a = (1.0 + kilometres / RADIUSEARTHKM) / (1.0 - e);
+    motion(XKE / (a * a.sqrt()))
+}
+
+fn exponential(random: &mut Random, smallest: i64, largest: i64) -> Exponential {
+    let mantissa = if random.one_in(10) { 0 } else { random.between(-99_999, 99_999) as i32 };
+    let exponent = if mantissa == 0 { 0 } else { random.between(smallest, largest) as i8 };
+    Exponential { mantissa, exponent }
+}
+
+fn designator(random: &mut Random) -> [u8; 8] {
+    let mut text = [b' '; 8];
+    if !random.one_in(8) {
+        text[..5].fill_with(|| b'0' + random.below(10) as u8);
+        let letters = 1 + random.below(3) as usize;
+        text[5..5 + letters].fill_with(|| b'A' + random.below(26) as u8);
+    }
+    text
+}
+
+/// A lawful record with nothing said about its orbit.
+fn anything(random: &mut Random) -> Record {
+    let day = match random.below(12) {
+        0 => 1_0000_0000,
+        1 => 366_9999_9999,
+        _ => random.between(1_0000_0000, 366_9999_9999) as u64,
+    };
+    Record {
+        number: random.below(100_000) as u32,
+        classification: *random.pick(b"UCS"),
+        designator: designator(random),
+        year: random.between(1957, 2056) as u16,
+        day,
+        ndot: random.between(-9999_9999, 9999_9999) as i32,
+        nddot: exponential(random, -9, 9),
+        bstar: exponential(random, -9, 9),
+        ephemeris: random.below(10) as u8,
+        set: random.below(10_000) as u16,
+        inclination: random.below(180_0001) as u32,
+        node: random.below(360_0000) as u32,
+        eccentricity: random.below(1000_0000) as u32,
+        perigee: random.below(360_0000) as u32,
+        anomaly: random.below(360_0000) as u32,
+        motion: 1 + random.below(99_9999_9999),
+        revolution: random.below(100_000) as u32,
+    }
+}
+
+/// One of the limits that the model compares with, give or take.
+fn around(random: &mut Random, limit: f64, relative: f64) -> f64 {
+    limit * (1.0 + random.uniform(-relative, relative))
+}
+
+pub fn record(random: &mut Random, aim: Aim) -> Record {
+    let mut record = anything(random);
+    if aim == Aim::Anything {
+        return record;
+    }
+    // Drag as satellites have it: B* from 1E-6 to 1E-2, of either sign.
+    record.bstar = exponential(random, -5, -1);
+    match aim {
+        Aim::Near => {
+            record.eccentricity = random.below(2_000_000) as u32;
+            record.motion = motion_for_perigee(random.uniform(225.0, 2500.0), record.eccentricity);
+        }
+        Aim::Decaying => {
+            let top = *random.pick(&[10_000, 500_000, 5_000_000]);
+            record.eccentricity = random.below(top) as u32;
+            record.motion = motion_for_perigee(random.uniform(100.0, 600.0), record.eccentricity);
+            record.bstar = exponential(random, -4, 4);
+        }
+        Aim::Perigee220 | Aim::Perigee156 | Aim::Perigee98 => {
+            let (low, high) = match aim {
+                Aim::Perigee220 => (150.0, 226.0),
+                Aim::Perigee156 => (92.0, 162.0),
+                _ => (-20.0, 104.0),
+            };
+            let top = if random.one_in(3) { 9_000_000 } else { 300_000 };
+            record.eccentricity = random.below(top) as u32;
+            record.motion = motion_for_perigee(random.uniform(low, high), record.eccentricity);
+        }
+        Aim::Circular => {
+            record.eccentricity = random.below(1200) as u32;
+            record.motion = motion_for_perigee(random.uniform(150.0, 1500.0), record.eccentricity);
+        }
+        Aim::Deep => {
+            record.eccentricity = random.below(8_000_000) as u32;
+            record.motion = motion(random.uniform(0.0002, 0.0279));
+        }
+        Aim::OneDay => {
+            let top = *random.pick(&[10_000, 100_000, 8_000_000]);
+            record.eccentricity = random.below(top) as u32;
+            record.motion = motion(random.uniform(0.0034, 0.0053));
+        }
+        Aim::HalfDay => {
+            record.eccentricity = match random.below(5) {
+                0 => *random
+                    .pick(&[5_000_000, 4_999_999, 6_500_000, 6_500_001, 7_000_000, 6_999_999, 7_150_000]),
+                _ => random.between(4_900_000, 7_600_000) as u32,
+            };
+            record.motion = motion(random.uniform(8.2e-3, 9.3e-3));
+        }
+        Aim::Limits => {
+            record.eccentricity = random.between(4_000_000, 7_600_000) as u32;
+            let limits = [2.0 * std::f64::consts::PI / 225.0, 8.26e-3, 9.24e-3, 0.0034906585, 0.0052359877];
+            let limit = *random.pick(&limits);
+            let relative = *random.pick(&[1e-2, 1e-4, 1e-6]);
+            record.motion = motion(around(random, limit, relative));
+            if random.one_in(2) {
+                record.eccentricity = random.below(1_000_000) as u32;
+            }
+        }
+        Aim::LowInclination => {
+            let top = *random.pick(&[2, 100, 30_0000, 12_0000]);
+            record.inclination = random.below(top) as u32;
+            record.eccentricity = random.below(7_500_000) as u32;
+            record.motion = match random.below(3) {
+                0 => motion(random.uniform(0.0035, 0.0052)),
+                1 => motion(random.uniform(8.26e-3, 9.24e-3)),
+                _ => motion(random.uniform(0.001, 0.0279)),
+            };
+        }
+        Aim::HighEccentricity => {
+            let lowest = *random.pick(&[8_000_000, 9_900_000, 9_999_900]);
+            record.eccentricity = random.between(lowest, 9_999_999) as u32;
+            record.motion = motion_for_perigee(random.uniform(0.0, 40_000.0), record.eccentricity);
+        }
+        Aim::Retrograde => {
+            let off = *random.pick(&[0, 1, 2, 20, 30_0000]);
+            record.inclination = 180_0000 - random.below(off + 1) as u32;
+            record.eccentricity = random.below(6_000_000) as u32;
+            record.motion = match random.below(3) {
+                0 => motion_for_perigee(random.uniform(150.0, 1500.0), record.eccentricity),
+                1 => motion(random.uniform(0.0034, 0.0053)),
+                _ => motion(random.uniform(0.001, 0.0279)),
+            };
+        }
+        Aim::Anything => unreachable!(),
+    }
+    record
+}
+
+// -------------------------------------------------------------------- lines
+
+fn mend(line: &mut Line) {
+    line[LENGTH - 1] = b'0' + tle::checksum(line);
+}
+
+/// The places of a line where a blank may also be a zero (right-set fields) or
+/// a plus, as first and last column.
+const RIGHT_SET: [&[(usize, usize)]; 2] =
+    [&[(65, 67)], &[(9, 10), (18, 19), (35, 36), (44, 45), (53, 53), (64, 67)]];
+const SIGNS: [usize; 3] = [34, 45, 54];
+
+/// The same record written another lawful way: zeros for blanks, plus signs,
+/// `+0` for `-0`, another exponent beside a zero mantissa.
+fn vary(random: &mut Random, lines: &mut (Line, Line)) {
+    for (which, line) in [&mut lines.0, &mut lines.1].into_iter().enumerate() {
+        for &(first, last) in RIGHT_SET[which] {
+            let zeros_from = random.between(first as i64, last as i64 + 2) as usize;
+            for column in zeros_from..=last {
+                if line[column - 1] == b' ' {
+                    line[column - 1] = b'0';
+                }
+            }
+        }
+    }
+    let line1 = &mut lines.0;
+    for column in SIGNS {
+        if line1[column - 1] == b' ' && random.one_in(3) {
+            line1[column - 1] = b'+';
+        }
+    }
+    for first in [45, 54] {
+        let zero_mantissa = line1[first..first + 5].iter().all(|&b| b == b'0');
+        if zero_mantissa && random.one_in(2) {
+            line1[first - 1] = *random.pick(b" +-");
+            line1[first + 5] = *random.pick(b"+-");
+            line1[first + 6] = b'0' + random.below(10) as u8;
+        } else if line1[first + 6] == b'0' && random.one_in(2) {
+            line1[first + 5] = *random.pick(b"+-");
+        }
+    }
+    mend(&mut lines.0);
+    mend(&mut lines.1);
+}
+
+/// A lawful pair of lines.
+pub fn pair(random: &mut Random, aim: Aim) -> (Line, Line) {
+    let record = record(random, aim);
+    let written = |which| tle::written(&record, which).expect("a lawful record");
+    let mut lines = (written(1), written(2));
+    if random.one_in(2) {
+        vary(random, &mut lines);
+    }
+    lines
+}
+
+/// Bytes that look lawful somewhere, and others that never are.
+const LAYOUT_BYTES: &[u8] = b"0123456789 +-.UCSABZ";
+
+fn damage_once(random: &mut Random, line: &mut Vec<u8>) {
+    let column = random.below(line.len().max(1) as u64) as usize;
+    match random.below(24) {
+        0 => line.truncate(random.below(LENGTH as u64 + 1) as usize),
+        1 => line.extend((0..1 + random.below(90)).map(|_| b' ')),
+        2 => {
+            if !line.is_empty() {
+                line.remove(column);
+            }
+        }
+        3 => line.insert(column.min(line.len()), *random.pick(LAYOUT_BYTES)),
+        4 => {
+            // Any byte but a newline, which would end the line.
+            let byte = random.below(255) as u8;
+            if !line.is_empty() {
+                line[column] = if byte >= b'\n' { byte + 1 } else { byte };
+            }
+        }
+        _ => {
+            if !line.is_empty() {
+                line[column] = *random.pick(LAYOUT_BYTES);
+            }
+        }
+    }
+}
+
+/// Values at and past the limits of the ranges: line, first column, text.
+const AT_LIMITS: [(usize, usize, &[u8]); 14] = [
+    (0, 21, b"000.99999999"),
+    (0, 21, b"001.00000000"),
+    (0, 21, b"366.99999999"),
+    (0, 21, b"367.00000000"),
+    (1, 9, b"180.0000"),
+    (1, 9, b"180.0001"),
+    (1, 18, b"359.9999"),
+    (1, 18, b"360.0000"),
+    (1, 35, b"359.9999"),
+    (1, 35, b"360.0000"),
+    (1, 44, b"359.9999"),
+    (1, 44, b"360.0000"),
+    (1, 53, b" 0.00000000"),
+    (1, 53, b" 0.00000001"),
+];
+
+fn put_at_limit(random: &mut Random, lines: &mut [Vec<u8>; 2]) {
+    let (which, first, text) = *random.pick(&AT_LIMITS);
+    lines[which][first - 1..first - 1 + text.len()].copy_from_slice(text);
+}
+
+/// A pair with up to four damages, fields put at the limits of their ranges, or
+/// another catalogue number; its checksums mostly mended again.
+pub fn damaged_pair(random: &mut Random) -> (Vec<u8>, Vec<u8>) {
+    let aim = *random.pick(&AIMS);
+    let (one, two) = pair(random, aim);
+    let mut lines = [one.to_vec(), two.to_vec()];
+    while random.one_in(4) {
+        put_at_limit(random, &mut lines);
+    }
+    if random.one_in(16) {
+        let which = random.below(2) as usize;
+        lines[which][2 + random.below(5) as usize] = b'0' + random.below(10) as u8;
+    }
+    if !random.one_in(8) {
+        for _ in 0..1 + random.below(4) * random.below(2) {
+            let which = random.below(2) as usize;
+            damage_once(random, &mut lines[which]);
+        }
+    }
+    if random.one_in(40) {
+        lines.swap(0, 1);
+    }
+    for line in &mut lines {
+        if line.len() == LENGTH && !random.one_in(6) {
+            line[LENGTH - 1] = b'0' + tle::checksum(line);
+        }
+    }
+    let [one, two] = lines;
+    (one, two)
+}
+
+// ----------------------------------------------------------------- requests
+
+/// A single time, or a list with the room lent for its rows.
+#[derive(Clone, Debug)]
+pub enum Ask {
+    One(i64),
+    List { times: Vec<i64>, room: usize },
+}
+
+/// A time in microseconds; far ones are rare, for a resonant satellite takes
+/// thousands of strides to them.
+pub fn time(random: &mut Random) -> i64 {
+    match random.below(64) {
+        0 => *random.pick(&[SPAN_LIMIT, -SPAN_LIMIT, SPAN_LIMIT + 1, -SPAN_LIMIT - 1, i64::MAX, i64::MIN]),
+        1 => random.between(-SPAN_LIMIT, SPAN_LIMIT),
+        2..=9 => random.between(-12, 12) * STRIDE + random.between(-1, 1),
+        10..=12 => 0,
+        13..=24 => random.between(-100 * DAY, 100 * DAY),
+        _ => random.between(-4 * DAY, 4 * DAY),
+    }
+}
+
+fn list(random: &mut Random) -> Ask {
+    let length = match random.below(100) {
+        0 => LIST_LIMIT as u64 + random.below(3),
+        1..=5 => 0,
+        _ => random.below(12),
+    };
+    let mut times: Vec<i64> = (0..length).map(|_| time(random)).collect();
+    if length > 20 {
+        times.iter_mut().for_each(|t| *t = random.between(-4 * DAY, 4 * DAY));
+    }
+    match random.below(4) {
+        0 => times.sort(),
+        1 => times.sort_by_key(|t| t.unsigned_abs()),
+        _ => {}
+    }
+    let room = match random.below(10) {
+        0 => random.below(length + 1),
+        1..=4 => length + random.below(4),
+        _ => length,
+    };
+    Ask::List { times, room: room as usize }
+}
+
+/// A sequence of single and list requests to one satellite.
+pub fn sequence(random: &mut Random) -> Vec<Ask> {
+    let count = 2 + random.below(7);
+    (0..count).map(|_| if random.one_in(3) { list(random) } else { Ask::One(time(random)) }).collect()
+}
