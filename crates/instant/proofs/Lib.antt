@@ -2,3 +2,5 @@
 pub mod Signed
 pub mod Calendar
 pub mod Move
+pub mod Once
+pub mod Long

@@ -1,3 +1,4 @@
+pub mod Division
 pub mod Quantity
 pub mod Calendar
 pub mod Move

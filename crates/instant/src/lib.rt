@@ -2,7 +2,9 @@
 ghost use mathlib.Core.Path.{_≡_};
 ghost use Prim.Native.Nat.{_+_, _*_, _^_, _≤_, _<_};
 ghost use lib.IntN.{natAbs};
+ghost use mathlib.Core.Bool.{false};
 ghost use lib.Ieee.{binary64, round};
+ghost use Rattle.instant.specs.Division.{Divided};
 ghost use Rattle.instant.specs.Quantity.{minutesOf, decimalOf, scaledOf, radiansOf};
 ghost use Rattle.instant.specs.Calendar.{daysBefore, lastDay, dayInRange, epochOf, dateOf};
 ghost use Rattle.instant.specs.Move.{landed, moveOf};
@@ -35,6 +37,83 @@ pub fn distance(t: Microseconds) -> u64
     } else {
         x as u64
     }
+}
+
+// ---- Whole numbers divided, rounded once.
+
+// Numbers that are f64s: only the division rounds.
+fn short_quotient(n: u64, d: u64) -> f64
+    requires { ⌜ (n ≤ 9007199254740992) × (1 ≤ d) × (d ≤ 9007199254740992) ⌝ }
+    ensures { λ r. ⌜ r ≡ round binary64 false n d ⌝ }
+{
+    n as f64 / d as f64
+}
+
+// n * scale = quotient * d + rest, and scale = 2 ^ bits.
+struct Division {
+    quotient: u64,
+    rest: u64,
+    scale: u64,
+    bits: u64,
+}
+
+// The division of n by d, carried on until the quotient has the 53 binary digits of an f64.
+fn divide(n: u64, d: u64) -> Division
+    requires { ⌜ (9007199254740992 ≤ n) × (4096 ≤ d) × (d ≤ 1125899906842624) ⌝ }
+    ensures { λ x. ⌜ Divided n d (x .quotient) (x .rest) (x .scale) (x .bits) ⌝ }
+    ensures { λ x. ⌜ 4503599627370496 ≤ x .quotient ⌝ }
+{
+    let mut quotient = n / d;
+    let mut rest = n % d;
+    let mut scale = 1;
+    let mut bits = 0;
+    while quotient < 4503599627370496 {
+        quotient = quotient * 2 + rest * 2 / d;
+        rest = rest * 2 % d;
+        scale *= 2;
+        bits += 1;
+    }
+    Division {
+        quotient,
+        rest,
+        scale,
+        bits,
+    }
+}
+
+// A number too long for an f64: a cast would round first. The quotient's last digit is rounded by the
+// exact remainder, a tie to even, and what is left is a division of two f64s.
+fn long_quotient(n: u64, d: u64) -> f64
+    requires { ⌜ (9007199254740992 ≤ n) × (4096 ≤ d) × (d ≤ 1125899906842624) ⌝ }
+    ensures { λ r. ⌜ r ≡ round binary64 false n d ⌝ }
+{
+    let x = divide(n, d);
+    let q = x.quotient;
+    let p = x.scale;
+    let r = x.rest * 2;
+    if r < d {
+        return short_quotient(q, p);
+    }
+    if r > d {
+        return short_quotient(q + 1, p);
+    }
+    short_quotient(q + q % 2, p)
+}
+
+// Minutes are microseconds divided by 60,000,000, rounded once.
+pub fn to_minutes(t: Microseconds) -> Minutes
+    ensures { λ r. ⌜ r .0 ≡ minutesOf (t .0) ⌝ }
+{
+    let x = t.0;
+    let d = distance(t);
+    if d <= 9007199254740992 {
+        return Minutes(x as f64 / 60000000.0);
+    }
+    let q = long_quotient(d, 60000000);
+    if x < 0 {
+        return Minutes(-q);
+    }
+    Minutes(q)
 }
 
 pub fn to_radians(x: Degrees) -> Radians
