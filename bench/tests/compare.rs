@@ -1,7 +1,7 @@
 //! The short run of the comparison; `cargo run --release --bin compare` is the long one.
 
 use port::compare::{damaged_case, whole_case, Tally};
-use port::elementary::{Document, DocumentProcessor};
+use port::elementary::{Document, DocumentProcessor, Libm};
 use port::library::{Library, Port, Restarting};
 use port::proved;
 
@@ -67,4 +67,14 @@ fn port_against_the_other() {
 #[test]
 fn either_square_root() {
     run((&Port::<Document>::new(), &Port::<DocumentProcessor>::new()), 700, 0);
+}
+
+/// The comparison sees a difference in the last bit.
+#[test]
+fn libm_is_told_apart() {
+    let (document, libm) = (Port::<Document>::new(), Port::<Libm>::new());
+    let found = (0..14)
+        .filter_map(|index| whole_case(SEED, index, (&document, &libm), &mut Tally::default()).err())
+        .count();
+    assert!(found >= 10, "{found} of 14");
 }

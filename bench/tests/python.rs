@@ -3,7 +3,9 @@
 //! instants. Two independent readings of document 01 have to agree before the
 //! proved code is held against either.
 
+use port::generate;
 use port::instant;
+use port::random::Random;
 use port::tle::{self, Field, Refusal};
 use std::path::{Path, PathBuf};
 use std::process::Command;
@@ -72,6 +74,30 @@ fn pairs() {
 #[test]
 fn more_random_pairs() {
     compare_pairs("2718", "3000");
+}
+
+/// The pairs of the comparison, read by the Python program.
+#[test]
+fn pairs_of_the_comparison() {
+    let mut random = Random::new(69);
+    let mut pairs: Vec<(Vec<u8>, Vec<u8>)> = (0..5000).map(|_| generate::damaged_pair(&mut random)).collect();
+    for aim in generate::AIMS {
+        for _ in 0..100 {
+            let (line1, line2) = generate::pair(&mut random, aim);
+            pairs.push((line1.to_vec(), line2.to_vec()));
+        }
+    }
+    let file = PathBuf::from(env!("CARGO_TARGET_TMPDIR")).join("pairs-compared.txt");
+    let lines =
+        pairs.iter().flat_map(|(line1, line2)| [line1.as_slice(), b"\n", line2.as_slice(), b"\n"].concat());
+    std::fs::write(&file, lines.collect::<Vec<u8>>()).unwrap();
+    let answers =
+        String::from_utf8(python(&["tests/tle_pairs.py", "--read", file.to_str().unwrap()])).unwrap();
+    assert_eq!(answers.lines().count(), pairs.len());
+    for ((line1, line2), want) in pairs.iter().zip(answers.lines()) {
+        let shown = (String::from_utf8_lossy(line1), String::from_utf8_lossy(line2));
+        assert_eq!(answer(line1, line2), want, "{shown:?}");
+    }
 }
 
 #[test]
