@@ -21,8 +21,8 @@ numbers in two's complement, f64 numbers as their bit patterns.
   jd INSTANT F64                  Julian date
   gst INSTANT F64                 Greenwich angle, 0 to two pi
 
-`minutes` stays within 2^53 microseconds (plus both ends of i64): every time a
-request may name is far inside.
+`minutes` goes over all of i64. Past 2^53, where a count is no longer an f64, it
+has cases in which a count rounded first and then divided gives another number.
 
 The output is the same on every run. `--seed N` draws other random cases.
 """
@@ -212,9 +212,15 @@ def minutes_cases(rng):
                 2**53, -2**53, 2**53 - 1, 2**63 - 1, -2**63)
     for _ in range(60):
         yield rng.randint(-SPAN_LIMIT, SPAN_LIMIT)
-    for _ in range(20):
-        size = rng.randint(1, 53)
-        yield rng.randint(-2**size, 2**size)
+    for _ in range(60):
+        size = rng.randint(1, 63)
+        yield rng.randint(-2**size, 2**size - 1)
+    found = 0
+    while found < 40:                                   # rounding twice would show
+        micros = rng.randint(-2**63, 2**63 - 1) >> rng.randint(0, 9)
+        if float(micros) / 60e6 != micros / 60_000_000:
+            found += 1
+            yield micros
 
 
 def angle_cases(rng):

@@ -51,7 +51,19 @@ pub fn moved(instant: i64, span: i64) -> Result<i64, u8> {
 
 /// Minutes: microseconds divided by 60,000,000, rounded once.
 pub fn minutes(micros: i64) -> f64 {
-    micros as f64 / 60_000_000.0
+    if micros.unsigned_abs() <= 1 << 53 {
+        return micros as f64 / 60_000_000.0;
+    }
+    // The count is not an f64: 40 more bits of quotient, the last one standing
+    // for all that is left over, then one rounding.
+    let scaled = (micros.unsigned_abs() as u128) << 40;
+    let quotient = scaled / 60_000_000 | (scaled % 60_000_000 != 0) as u128;
+    let magnitude = quotient as f64 / (1u64 << 40) as f64;
+    if micros < 0 {
+        -magnitude
+    } else {
+        magnitude
+    }
 }
 
 /// 002's `epoch`: days from 1950 January 0, 0h.
