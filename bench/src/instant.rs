@@ -57,7 +57,8 @@ pub fn minutes(micros: i64) -> f64 {
     // The count is not an f64: 40 more bits of quotient, the last one standing
     // for all that is left over, then one rounding.
     let scaled = (micros.unsigned_abs() as u128) << 40;
-    let quotient = scaled / 60_000_000 | (scaled % 60_000_000 != 0) as u128;
+    let left_over = !scaled.is_multiple_of(60_000_000);
+    let quotient = (scaled / 60_000_000) | left_over as u128;
     let magnitude = quotient as f64 / (1u64 << 40) as f64;
     if micros < 0 {
         -magnitude
