@@ -17,7 +17,7 @@ pub sq-suc : (c : ℕ) → (c + 1) * (c + 1) ≡ c * c + 2 * c + 1
 sq-suc c = simp (mul-add, add-mul, mul-one, one-mul) (omega arith)
 
 -- ---- `isqrt` is the whole part of the root
-twice-sq : (p : ℕ) → 2 * p * (2 * p) ≡ 4 * (p * p)
+pub twice-sq : (p : ℕ) → 2 * p * (2 * p) ≡ 4 * (p * p)
 twice-sq p = mul-mul-mul-comm 2 p 2 p
 
 step : (b : Bool) (p n : ℕ) → (T b → (2 * p + 1) * (2 * p + 1) ≤ n) → (T (not b) → n < (2 * p + 1) * (2 * p + 1)) → p * p ≤ n / 4 → n / 4 < (p + 1) * (p + 1)
@@ -116,11 +116,18 @@ pub record Sizes (a s : ℕ) : Type 0 where
   pub v-hi : quo a s * quo a s ≤ 4503599627370496
   pub key : a * 4503599627370496 + quo a s * quo a s ≡ (s * 67108864 + quo a s) * (s * 67108864 + quo a s) + rest a s * 67108864
 
-module _ (a s : ℕ) (lo : 4503599627370496 ≤ a) (hi : a ≤ 18014398509481982) (l : s * s ≤ a) (h : a < (s + 1) * (s + 1)) where
+-- that s is the whole root of such an a
+pub record Whole (a s : ℕ) : Type 0 where
+  pub lo : 4503599627370496 ≤ a
+  pub hi : a ≤ 18014398509481982
+  pub low : s * s ≤ a
+  pub high : a < (s + 1) * (s + 1)
+
+module _ (a s : ℕ) (k : Whole a s) where
   pub sizes : Sizes a s
   sizes =
-      let b : 67108864 < s + 1 = sq-lt (lt-of-le-of-lt lo h) in
-      let d : s < 134217728 = sq-lt (lt-of-le-of-lt (le-trans l hi) (lit< tt)) in
+      let b : 67108864 < s + 1 = sq-lt (lt-of-le-of-lt (k .lo) (k .high)) in
+      let d : s < 134217728 = sq-lt (lt-of-le-of-lt (le-trans (k .low) (k .hi)) (lit< tt)) in
       let w : a - s * s ≤ 2 * s = omega (arith, sq-suc s) in
       let pos : 0 < s * 2 = omega arith in
       let w2 : a - s * s ≤ s * 2 = omega arith in
@@ -133,11 +140,11 @@ module _ (a s : ℕ) (lo : 4503599627370496 ≤ a) (hi : a ≤ 18014398509481982
         t-hi = t;
         p-hi = mod-lt ((a - s * s) * 67108864) pos;
         v-hi = sq-mono t;
-        key = subst (λ (x : ℕ). x * 4503599627370496 + quo a s * quo a s ≡ (s * 67108864 + quo a s) * (s * 67108864 + quo a s) + rest a s * 67108864) (add-sub-of-le l) i;
+        key = subst (λ (x : ℕ). x * 4503599627370496 + quo a s * quo a s ≡ (s * 67108864 + quo a s) * (s * 67108864 + quo a s) + rest a s * 67108864) (add-sub-of-le (k .low)) i;
       }
 
   in-range : (0 < a * 4503599627370496) × (a * 4503599627370496 < 4 ^ 53)
-  in-range = (omega arith, lt-of-le-of-lt (mul-le-mul-right 4503599627370496 hi) (lit< tt))
+  in-range = (omega arith, lt-of-le-of-lt (mul-le-mul-right 4503599627370496 (k .hi)) (lit< tt))
 
   pub one-up : quo a s * quo a s + (s * 67108864 + quo a s) < rest a s * 67108864 → s * 67108864 + quo a s + 1 ≡ nearRoot (a * 4503599627370496)
   one-up g =
@@ -146,7 +153,7 @@ module _ (a s : ℕ) (lo : 4503599627370496 ≤ a) (hi : a ≤ 18014398509481982
       near-is (a * 4503599627370496) (c + 1) (in-range .0) (in-range .1) (omega (arith, sq-suc c), omega (arith, sq-suc c))
 
   pub same : rest a s * 67108864 ≤ quo a s * quo a s + (s * 67108864 + quo a s) → quo a s * quo a s < rest a s * 67108864 + (s * 67108864 + quo a s) → s * 67108864 + quo a s ≡ nearRoot (a * 4503599627370496)
-  same g k =
+  same g u =
       let z = sizes in
       let c = s * 67108864 + quo a s in
       near-is (a * 4503599627370496) c (in-range .0) (in-range .1) (omega arith, omega arith)

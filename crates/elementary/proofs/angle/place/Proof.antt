@@ -1,10 +1,11 @@
-use lib.Ieee.{round, ofBits, neg}
+use lib.Ieee.{neg}
 use Rattle.elementary.specs.Angle.{placed}
+use Rattle.elementary.proofs.Literals.{literal}
 use Rattle.elementary.proofs.angle.place.Statement.{statement}
 use Rattle.elementary.proofs.angle.place.Tie as tie
 
 pub place-spec : {M : Type 1} → statement M
-unfolding placed round ofBits neg
+unfolding placed literal neg
 place-spec =
     tie.close
     (tie.spec (λ c. simp (c .before .if1 .taken, c .if2 .taken)) (λ c. simp (c .before .if1 .taken, c .if2 .left))

@@ -1,10 +1,12 @@
+-- After i turns y is i steps from the start.
 use mathlib.Core.Path.{_≡_, refl, sym, ap, _∙_}
 use Prim.Native.Nat.{ℕ, _≤_, _-_}
 use native.Mathlib.Omega.{arith}
 use native.Mathlib.Numerals.{add-one}
+use lib.Ieee.{Float}
 use borrow.Author.Needs.{needs}
-use Rattle.elementary.specs.Cube.{steps, stepOf, startOf}
-use lib.Ieee.{Float, round, ofBits}
+use Rattle.elementary.specs.Cube.{steps, stepOf}
+use Rattle.elementary.proofs.Literals.{literal}
 use Rattle.elementary.proofs.cube.eight_steps.Statement.{statement}
 use Rattle.elementary.proofs.cube.eight_steps.Tie as tie
 
@@ -15,17 +17,8 @@ abbrev μ-loop : tie.MeasureT-loop
 μ-loop m y₀ i₀ y i = 8 - i
 
 loop-holds : tie.Need-loop-holds Inv-loop μ-loop
-unfolding steps startOf round ofBits
+unfolding steps literal
 loop-holds c = (omega arith, refl)
-
-step-requires : tie.Need-step-requires Inv-loop μ-loop
-step-requires c κs = search needs
-
-add-i : tie.Need-add-i Inv-loop μ-loop
-add-i c = omega arith
-
-loop-less : tie.Need-loop-less Inv-loop μ-loop
-loop-less c = omega arith
 
 loop-again : tie.Need-loop-again Inv-loop μ-loop
 unfolding steps
@@ -42,4 +35,4 @@ returns c =
 pub eight-steps-spec : {M : Type 1} → statement M
 eight-steps-spec =
     tie.close
-    (tie.spec Inv-loop μ-loop loop-holds step-requires add-i loop-less loop-again returns)
+    (tie.spec Inv-loop μ-loop loop-holds (λ c κs. search needs) (λ c. omega arith) (λ c. omega arith) loop-again returns)

@@ -1,24 +1,25 @@
 use mathlib.Core.Path.{_≡_, _∙_}
 use mathlib.Core.Bool.{cond}
-use lib.Ieee.{round, ofBits, neg, lt}
+use lib.Ieee.{neg, lt}
 use Rattle.elementary.specs.Trig.{folded}
 use Rattle.elementary.specs.Notation.{_⊕_, _⊖_, pi, half-pi}
 use Rattle.elementary.proofs.Branch.{yes, no}
+use Rattle.elementary.proofs.Literals.{literal}
 use Rattle.elementary.proofs.trig.fold.Statement.{statement}
 use Rattle.elementary.proofs.trig.fold.Tie as tie
 
 returns : tie.Need-returns
-unfolding folded round ofBits neg
+unfolding folded literal neg
 returns c = let r = c .before .args .r in yes (lt half-pi r) (pi ⊖ r) (cond (lt r (neg half-pi)) (neg pi ⊖ r) r) (c .if1 .taken)
 
 returns-2 : tie.Need-returns-2
-unfolding folded round ofBits neg
+unfolding folded literal neg
 returns-2 c =
     let r = c .before .before .args .r in
     yes (lt r (neg half-pi)) (neg pi ⊖ r) r (c .if2 .taken) ∙ no (lt half-pi r) (pi ⊖ r) (cond (lt r (neg half-pi)) (neg pi ⊖ r) r) (c .before .if1 .left)
 
 returns-3 : tie.Need-returns-3
-unfolding folded round ofBits neg
+unfolding folded literal neg
 returns-3 c =
     let r = c .before .before .args .r in
     no (lt r (neg half-pi)) (neg pi ⊖ r) r (c .if2 .left) ∙ no (lt half-pi r) (pi ⊖ r) (cond (lt r (neg half-pi)) (neg pi ⊖ r) r) (c .before .if1 .left)

@@ -1,10 +1,11 @@
-use lib.Ieee.{round, ofBits, neg}
+use lib.Ieee.{neg}
 use Rattle.elementary.specs.Trig.{signed}
+use Rattle.elementary.proofs.Literals.{literal}
 use Rattle.elementary.proofs.trig.sign.Statement.{statement}
 use Rattle.elementary.proofs.trig.sign.Tie as tie
 
 pub sign-spec : {M : Type 1} → statement M
-unfolding signed round ofBits neg
+unfolding signed literal neg
 sign-spec =
     tie.close
     (tie.spec (λ c. simp (c .if1 .taken)) (λ c. simp (c .before .if1 .left, c .if2 .taken)) (λ c. simp (c .before .if1 .left, c .if2 .left)))

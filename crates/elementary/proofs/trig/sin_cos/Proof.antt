@@ -1,11 +1,11 @@
-use lib.Ieee.{round, ofBits}
 use Rattle.elementary.specs.Trig.{sinOf, cosOf, sinCos}
 use borrow.Author.Needs.{needs}
+use Rattle.elementary.proofs.Literals.{literal}
 use Rattle.elementary.proofs.trig.sin_cos.Statement.{statement}
 use Rattle.elementary.proofs.trig.sin_cos.Tie as tie
 
 pub sin-cos-spec : {M : Type 1} → statement M
-unfolding sinCos sinOf cosOf round ofBits
+unfolding sinCos sinOf cosOf literal
 sin-cos-spec =
     tie.close
     (tie.spec (λ c κs. search needs) (λ c κs. search needs) (λ c κs. search needs) (λ c κs. search needs) (λ c κs. search needs)
