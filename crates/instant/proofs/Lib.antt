@@ -4,3 +4,6 @@ pub mod Calendar
 pub mod Move
 pub mod Once
 pub mod Long
+pub mod Grow
+pub mod Constants
+pub mod Exponent

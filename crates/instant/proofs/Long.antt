@@ -33,7 +33,7 @@ same-bits f (fin t m e) (fin u n d) s a c C v w =
     (mul-right-comm (m * up e) L (down d) ∙ ap (λ (z : ℕ). z * L) cross ∙ mul-right-comm (n * up d) (down e) L) in
     ap (λ (b : Bool). pattern f b (m * up e * L / down e)) (v .0 ∙ sym (w .0)) ∙ ap (λ (z : ℕ). pattern f u z) same
 
-unique : (f : Format) (x y : Float) (s : Bool) (a c : ℕ) → 0 < c → T (fits f x) → T (fits f y) → HasValue x s a c → HasValue y s a c → x ≡ y
+pub unique : (f : Format) (x y : Float) (s : Bool) (a c : ℕ) → 0 < c → T (fits f x) → T (fits f y) → HasValue x s a c → HasValue y s a c → x ≡ y
 unique f x y s a c C p q v w = sym (ofBits-toBits f x p) ∙ ap (λ (b : ℕ). ofBits f b) (same-bits f x y s a c C v w) ∙ ofBits-toBits f y q
 
 -- ---- a quotient of 53 digits has 53 + j in units of 2 ^ -j
@@ -60,7 +60,7 @@ kept s n d k j D K lo hi =
     (closest-same (n * 2 ^ 1074) (d * 2 ^ j) (n * 2 ^ k) d (mul-pos D (pow-pos j)) D (ap (λ (x : ℕ). x * d) w ∙ mul-assoc (n * 2 ^ k) (2 ^ j) d ∙ ap (λ (x : ℕ). n * 2 ^ k * x) (mul-comm (2 ^ j) d)))
 
 -- ---- a whole number of 53 digits, in those units, is a value
-value : (s : Bool) (q j : ℕ) → q ≤ 2 ^ 53 → j ≤ 1074 → HasValue (round binary64 s (q * 2 ^ j) (2 ^ 1074)) s (q * 2 ^ j) (2 ^ 1074)
+pub value : (s : Bool) (q j : ℕ) → q ≤ 2 ^ 53 → j ≤ 2000 → HasValue (round binary64 s (q * 2 ^ j) (2 ^ 1074)) s (q * 2 ^ j) (2 ^ 1074)
 value s q j h i = go (eq-or-lt-of-le h)
   where
     go : (q ≡ 2 ^ 53) ⊎ (q < 2 ^ 53) → HasValue (round binary64 s (q * 2 ^ j) (2 ^ 1074)) s (q * 2 ^ j) (2 ^ 1074)

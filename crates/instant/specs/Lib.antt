@@ -2,3 +2,4 @@ pub mod Division
 pub mod Quantity
 pub mod Calendar
 pub mod Move
+pub mod Greenwich

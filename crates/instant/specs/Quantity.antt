@@ -20,12 +20,12 @@ unfoldable pub decimalOf : ℕ → ℕ → Float
 decimalOf n places = cond (leb places 15) (dec n places) nan
 
 -- The exponent fields: mantissa times 10 ^ (exponent - 5), rounded once. Five digits and one digit, as the layout has them; NaN for any other pair
-unfoldable pub powered : ℤ → ℤ → Float
-powered m (pos e) = over m (10 ^ (e - 5)) (10 ^ (5 - e))
-powered m (negsuc e) = over m 1 (10 ^ (6 + e))
+unfoldable pub poweredOf : ℤ → ℤ → Float
+poweredOf m (pos e) = over m (10 ^ (e - 5)) (10 ^ (5 - e))
+poweredOf m (negsuc e) = over m 1 (10 ^ (6 + e))
 
 unfoldable pub scaledOf : ℤ → ℤ → Float
-scaledOf m e = cond (leb (natAbs m) 99999 && leb (natAbs e) 9) (powered m e) nan
+scaledOf m e = cond (leb (natAbs m) 99999 && leb (natAbs e) 9) (poweredOf m e) nan
 
 -- "degrees are then multiplied by pi/180": 002's deg2rad
 unfoldable pub deg2rad : Float

@@ -1,13 +1,14 @@
 // Quantities of time and angle kept apart, converted only by named functions.
 ghost use mathlib.Core.Path.{_≡_};
 ghost use Prim.Native.Nat.{_+_, _*_, _^_, _≤_, _<_};
-ghost use lib.IntN.{natAbs};
+ghost use lib.IntN.{pos, natAbs};
 ghost use mathlib.Core.Bool.{false};
 ghost use lib.Ieee.{binary64, round};
 ghost use Rattle.instant.specs.Division.{Divided};
-ghost use Rattle.instant.specs.Quantity.{minutesOf, decimalOf, scaledOf, radiansOf};
+ghost use Rattle.instant.specs.Quantity.{minutesOf, decimalOf, poweredOf, scaledOf, radiansOf};
 ghost use Rattle.instant.specs.Calendar.{daysBefore, lastDay, dayInRange, epochOf, dateOf};
 ghost use Rattle.instant.specs.Move.{landed, moveOf};
+ghost use Rattle.instant.specs.Greenwich.{epochDaysOf, julianOf, siderealOf, quadrant, gstimeOf, greenwichOf};
 
 // A signed count of microseconds.
 pub struct Microseconds(pub i64);
@@ -26,17 +27,22 @@ pub struct Radians(pub f64);
 
 pub struct Degrees(pub f64);
 
-// How far a time lies from 0.
-pub fn distance(t: Microseconds) -> u64
-    ensures { λ r. ⌜ r ≡ natAbs (t .0) ⌝ }
+fn magnitude(x: i64) -> u64
+    ensures { λ r. ⌜ r ≡ natAbs x ⌝ }
 {
-    let x = t.0;
     if x < 0 {
         let y = !x;
         y as u64 + 1
     } else {
         x as u64
     }
+}
+
+// How far a time lies from 0.
+pub fn distance(t: Microseconds) -> u64
+    ensures { λ r. ⌜ r ≡ natAbs (t .0) ⌝ }
+{
+    magnitude(t.0)
 }
 
 // ---- Whole numbers divided, rounded once.
@@ -98,6 +104,79 @@ fn long_quotient(n: u64, d: u64) -> f64
         return short_quotient(q + 1, p);
     }
     short_quotient(q + q % 2, p)
+}
+
+// The f64 nearest to n / d, for every n.
+fn quotient(n: u64, d: u64) -> f64
+    requires { ⌜ (1 ≤ d) × (d ≤ 1125899906842624) ⌝ }
+    ensures { λ r. ⌜ r ≡ round binary64 false n d ⌝ }
+{
+    if n <= 9007199254740992 {
+        return short_quotient(n, d);
+    }
+    if d >= 4096 {
+        return long_quotient(n, d);
+    }
+    long_quotient(n, d * 4096) * 4096.0
+}
+
+fn power_of_ten(k: u64) -> u64
+    requires { ⌜ k ≤ 15 ⌝ }
+    ensures { λ r. ⌜ r ≡ 10 ^ k ⌝ }
+    ensures { λ r. ⌜ (1 ≤ r) × (r ≤ 1000000000000000) ⌝ }
+{
+    let mut p = 1;
+    let mut i = 0;
+    while i < k {
+        p *= 10;
+        i += 1;
+    }
+    p
+}
+
+// A decimal field: its whole number divided by its power of ten, rounded once. NaN beyond 15 places.
+pub fn decimal(n: u64, places: u64) -> f64
+    ensures { λ r. ⌜ r ≡ decimalOf n places ⌝ }
+{
+    if places <= 15 {
+        let d = power_of_ten(places);
+        return quotient(n, d);
+    }
+    0.0 / 0.0
+}
+
+// m * 10 ^ (exponent - 5), rounded once.
+fn powered(m: u64, exponent: i64) -> f64
+    requires { ⌜ (m ≤ 99999) × (natAbs exponent ≤ 9) ⌝ }
+    ensures { λ r. ⌜ r ≡ poweredOf (pos m) exponent ⌝ }
+{
+    let e = magnitude(exponent);
+    if exponent < 0 {
+        return quotient(m, power_of_ten(5 + e));
+    }
+    if e <= 5 {
+        return quotient(m, power_of_ten(5 - e));
+    }
+    quotient(m * power_of_ten(e - 5), 1)
+}
+
+// A field with an exponent: mantissa * 10 ^ (exponent - 5), rounded once. NaN where the mantissa has
+// more than five digits or the exponent more than one.
+pub fn scaled(mantissa: i64, exponent: i64) -> f64
+    ensures { λ r. ⌜ r ≡ scaledOf mantissa exponent ⌝ }
+{
+    let m = magnitude(mantissa);
+    if m > 99999 {
+        return 0.0 / 0.0;
+    }
+    if magnitude(exponent) > 9 {
+        return 0.0 / 0.0;
+    }
+    let q = powered(m, exponent);
+    if mantissa < 0 {
+        return -q;
+    }
+    q
 }
 
 // Minutes are microseconds divided by 60,000,000, rounded once.
@@ -241,4 +320,54 @@ pub fn move_by(t: Instant, span: Microseconds) -> Moved
         return Moved::Outside;
     }
     land(x + d)
+}
+
+// ---- Days and the Greenwich angle.
+
+// Days since 1949 December 31, 0h, as 002's `epoch`.
+pub fn epoch_days(t: Instant) -> Days
+    ensures { λ r. ⌜ r .0 ≡ epochDaysOf (t .0) ⌝ }
+{
+    Days(quotient(t.0, 86400000000) + 2558.0)
+}
+
+pub fn julian_date(t: Instant) -> Days
+    ensures { λ r. ⌜ r .0 ≡ julianOf (t .0) ⌝ }
+{
+    Days(epoch_days(t).0 + 2433281.5)
+}
+
+fn sidereal_seconds(tut1: f64) -> f64
+    ensures { λ r. ⌜ r ≡ siderealOf tut1 ⌝ }
+{
+    -0.0000062 * tut1 * tut1 * tut1
+        + 0.093104 * tut1 * tut1
+        + 3164400184.812866 * tut1
+        + 67310.54841
+}
+
+fn into_turn(x: f64) -> f64
+    ensures { λ r. ⌜ r ≡ quadrant x ⌝ }
+{
+    if x < 0.0 {
+        return x + 6.283185307179586;
+    }
+    x
+}
+
+// Greenwich sidereal time at a Julian date, 0 to two pi.
+pub fn gstime(jdut1: Days) -> Radians
+    ensures { λ r. ⌜ r .0 ≡ gstimeOf (jdut1 .0) ⌝ }
+{
+    let tut1 = (jdut1.0 - 2451545.0) / 36525.0;
+    let temp = sidereal_seconds(tut1);
+    let turn = elementary::rem_turn(temp * 0.017453292519943295 / 240.0);
+    Radians(into_turn(turn))
+}
+
+// The Greenwich angle at an instant, UT1 taken as UTC.
+pub fn greenwich(t: Instant) -> Radians
+    ensures { λ r. ⌜ r .0 ≡ greenwichOf (t .0) ⌝ }
+{
+    gstime(julian_date(t))
 }
