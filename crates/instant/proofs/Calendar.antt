@@ -41,12 +41,18 @@ pub outside : (t : ℕ) → 3155760000000000 ≤ t → inCalendar t ≡ false
 unfolding inCalendar
 outside t h = subst (λ (z : ℕ). ltb t z ≡ false) (sym calendar-end) (le-ltb t 3155760000000000 h)
 
+-- two tests that both pass
+both : {P Q : Type 0} (a b : Bool) → (a ≡ true → P) → (b ≡ true → Q) → (a && b) ≡ true → P × Q
+both true true p q h = (p refl, q refl)
+both true false p q h = absurd (false≢true h)
+both false true p q h = absurd (false≢true h)
+both false false p q h = absurd (false≢true h)
+
 -- a day that an epoch may have is from day 1 up to the end of day 366
 pub day-bounds : (year day : ℕ) → dayInRange year day ≡ true → (100000000 ≤ day) × (day < 36700000000)
 unfolding dayInRange lastDay
-day-bounds year day h = go (leb 100000000 day) (ltb day 36700000000) (leb-true 100000000 day) (ltb-true day 36700000000) h
-  where
-    go : (a b : Bool) → (a ≡ true → 100000000 ≤ day) → (b ≡ true → day < 36700000000) → (a && b) ≡ true → (100000000 ≤ day) × (day < 36700000000)
-    go true true p q h = (p refl, q refl)
-    go true false p q h = absurd (false≢true h)
-    go false b p q h = absurd (false≢true h)
+day-bounds year day h = both (leb 100000000 day) (ltb day 36700000000) (leb-true 100000000 day) (ltb-true day 36700000000) h
+
+pub year-bounds : (year : ℕ) → yearInRange year ≡ true → (1957 ≤ year) × (year ≤ 2056)
+unfolding yearInRange
+year-bounds year h = both (leb 1957 year) (leb year 2056) (leb-true 1957 year) (leb-true year 2056) h

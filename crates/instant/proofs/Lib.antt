@@ -7,3 +7,4 @@ pub mod Long
 pub mod Grow
 pub mod Constants
 pub mod Exponent
+pub mod Theorems

@@ -3,3 +3,4 @@ pub mod Quantity
 pub mod Calendar
 pub mod Move
 pub mod Greenwich
+pub mod Examples

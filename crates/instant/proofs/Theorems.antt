@@ -1,0 +1,108 @@
+-- The theorems of the calendar, over its definitions. Assumes nothing.
+use mathlib.Core.Path.{_≡_, refl, sym, ap, _∙_, subst}
+use mathlib.Core.Bool.{Bool, true, false, cond, _&&_}
+use Prim.Native.Nat.{ℕ, zero, suc, _+_, _-_, _*_, _/_, _%_, _≤_, _<_}
+use native.Mathlib.Nat.{div-add-mod'}
+use native.Mathlib.Omega.{arith}
+use lib.Dec.{leb, ltb}
+use borrow.Author.Tests.{ltb-true, leb-true, le-leb}
+use Rattle.instant.specs.Calendar.{dayMicros, unitMicros, daysIn, daysBefore, calendarEnd, inCalendar, yearInRange, dayInRange, together, epochMicros, epochOf, yearsSince, dateOf}
+use Rattle.instant.specs.declared.Dated.{Dated}
+use Rattle.instant.specs.declared.Dated.the-variants as dated
+use Rattle.instant.specs.declared.Epoch.the-variants as epoch
+use Rattle.instant.proofs.Calendar.{calendar-end, days-before, year-bounds, day-bounds, year-begun, year-not-over, inside}
+
+-- The calendar ends at 3,155,760,000,000,000.
+pub end-of-calendar : calendarEnd ≡ 3155760000000000
+end-of-calendar = calendar-end
+
+-- Day fraction 78495062 is 67,819,733,568 microseconds.
+pub day-fraction : 78495062 * unitMicros ≡ 67819733568
+day-fraction = refl
+
+-- ---- an instant taken apart and put together is that instant
+
+-- what its parts are: a year of the calendar, a day that the year has, a time of that day, and together they are the instant
+pub record Parts (t year day micros : ℕ) : Type 0 where
+  pub first : 1957 ≤ year
+  pub last : year ≤ 2056
+  pub day-from : 1 ≤ day
+  pub day-to : day ≤ daysIn year
+  pub time : micros < dayMicros
+  pub whole : together year day micros ≡ t
+
+-- `dateOf` gives them for every instant of the calendar
+abbrev pub Apart : ℕ → Dated → Type 0
+Apart t (dated.On d) = Parts t (d .year) (d .day) (d .micros)
+Apart t dated.Outside = ⊥
+
+parts : (t : ℕ) → t < 3155760000000000 → let days = t / dayMicros in let k = yearsSince days in Parts t (1957 + k) (days - daysBefore k + 1) (t % dayMicros)
+unfolding together yearsSince daysBefore
+parts t h =
+    let days = t / dayMicros in
+    let k = yearsSince days in
+    let begun : daysBefore k ≤ days = year-begun days in
+    let running : days < daysBefore k + daysIn (1957 + k) = year-not-over days in
+    let year : 1957 + k - 1957 ≡ k = omega arith in
+    let sum : (daysBefore k + (days - daysBefore k + 1 - 1)) * dayMicros + t % dayMicros ≡ t = omega arith in
+    record {
+      first = omega arith;
+      last = omega arith;
+      day-from = omega arith;
+      day-to = omega arith;
+      time = omega arith;
+      whole = ap (λ (z : ℕ). (daysBefore z + (days - daysBefore k + 1 - 1)) * dayMicros + t % dayMicros) year ∙ sum;
+    }
+
+pub apart-together : (t : ℕ) → t < calendarEnd → Apart t (dateOf t)
+unfolding dateOf
+apart-together t h =
+    let g : t < 3155760000000000 = subst (λ (z : ℕ). t < z) calendar-end h in
+    let days = t / dayMicros in
+    let k = yearsSince days in
+    subst (λ (b : Bool). Apart t (cond b (dated.On (record { year = 1957 + k; day = days - daysBefore k + 1; micros = t % dayMicros })) dated.Outside)) (sym (inside t g)) (parts t g)
+
+-- ---- every readable epoch lies in the calendar: 2056 has 366 days
+pub epoch-inside : (year day : ℕ) → yearInRange year ≡ true → dayInRange year day ≡ true → (epochOf year day ≡ epoch.At (record { 0 = epochMicros year day })) × (epochMicros year day < calendarEnd)
+unfolding epochOf epochMicros
+epoch-inside year day y h =
+    let b = year-bounds year y in
+    let d = day-bounds year day h in
+    let e : daysBefore (year - 1957) ≡ 365 * (year - 1957) + (year - 1957) / 4 = days-before (year - 1957) in
+    (simp (y, h), subst (λ (z : ℕ). epochMicros year day < z) (sym calendar-end) (omega arith))
+
+-- ---- only one date is that instant
+earlier : (a b : ℕ) → a ≤ b → daysBefore a ≤ daysBefore b
+earlier a b h = let x = days-before a in let y = days-before b in omega arith
+
+-- the year of a day is the one that has begun and is not over
+pub one-year : (d k : ℕ) → daysBefore k ≤ d → d < daysBefore (suc k) → k ≡ yearsSince d
+one-year d k lo hi =
+    let j = yearsSince d in
+    let x = days-before k in
+    let y = days-before (suc k) in
+    let p = days-before j in
+    let q = days-before (suc j) in
+    let b = year-begun d in
+    let e = year-not-over d in
+    omega arith
+
+-- so a date put together and taken apart is that date
+pub together-apart : (t year day micros : ℕ) → Parts t year day micros → dateOf t ≡ dated.On (record { year = year; day = day; micros = micros })
+unfolding dateOf together daysBefore
+together-apart t year day micros p =
+    let k = year - 1957 in
+    let days = t / dayMicros in
+    let w : (daysBefore k + (day - 1)) * dayMicros + micros ≡ t = p .whole in
+    let a = p .first in
+    let b = p .last in
+    let c = p .day-from in
+    let l = p .time in
+    let d : days ≡ daysBefore k + (day - 1) = omega arith in
+    let r : t % dayMicros ≡ micros = omega arith in
+    let y : 1957 + k ≡ year = omega arith in
+    let m : day ≤ daysIn (1957 + k) = subst (λ (z : ℕ). day ≤ daysIn z) (sym y) (p .day-to) in
+    let n : k ≡ yearsSince days = one-year days k (omega arith) (omega arith) in
+    let g : t < 3155760000000000 = (let x = days-before (suc k) in omega arith) in
+    let e : days - daysBefore k + 1 ≡ day = omega arith in
+    simp (inside t g, sym n, r, y, e)

@@ -1,0 +1,60 @@
+-- Worked examples.
+use mathlib.Core.Path.{_≡_, refl}
+use mathlib.Core.Bool.{false}
+use lib.IntN.{pos, negsuc}
+use lib.Ieee.{fin, round, units, odd, size, span, climb}
+use lib.Count.{trailingZeros}
+use Rattle.instant.specs.Quantity.{over, minutesOf, decimalOf, poweredOf, scaledOf}
+use Rattle.instant.specs.Calendar.{daysIn, daysBefore, calendarEnd, inCalendar, yearInRange, lastDay, dayInRange, epochMicros, epochOf, yearsSince, dateOf}
+use Rattle.instant.specs.Move.{spanLimit, inSpan, landed, reached, moveOf, refusal}
+use Rattle.instant.specs.declared.Epoch.the-variants as epoch
+use Rattle.instant.specs.declared.Dated.the-variants as dated
+use Rattle.instant.specs.declared.Moved.the-variants as moved
+
+-- the epoch of document 01's example, 2000 179.78495062, and that instant taken apart
+vanguard : epochOf 2000 17978495062 ≡ epoch.At (record { 0 = 1372359019733568 })
+unfolding epochOf yearInRange dayInRange lastDay epochMicros daysBefore daysIn
+vanguard = refl
+
+vanguard-date : dateOf 1372359019733568 ≡ dated.On (record { year = 2000; day = 179; micros = 67819733568 })
+unfolding dateOf inCalendar calendarEnd yearsSince daysBefore daysIn
+vanguard-date = refl
+
+-- day 366 of a common year is January 1 of the next; day 367 is no day
+day-366 : epochOf 1957 36600000000 ≡ epochOf 1958 100000000
+unfolding epochOf yearInRange dayInRange lastDay epochMicros daysBefore daysIn
+day-366 = refl
+
+day-367 : epochOf 1960 36700000000 ≡ epoch.Outside
+unfolding epochOf yearInRange dayInRange lastDay
+day-367 = refl
+
+last-instant : dateOf 3155759999999999 ≡ dated.On (record { year = 2056; day = 366; micros = 86399999999 })
+unfolding dateOf inCalendar calendarEnd yearsSince daysBefore daysIn
+last-instant = refl
+
+-- 315,532,800,000,000 microseconds is the longest move; 9 comes before 6
+longest : moveOf 0 (pos 315532800000000) ≡ moved.To (record { 0 = 315532800000000 })
+unfolding moveOf inSpan spanLimit inCalendar calendarEnd daysBefore daysIn reached landed
+longest = refl
+
+too-long : refusal (moveOf 3155760000000000 (negsuc 315532800000000)) ≡ 9
+unfolding refusal moveOf inSpan spanLimit
+too-long = refl
+
+before-1957 : refusal (moveOf 0 (negsuc 0)) ≡ 6
+unfolding refusal moveOf inSpan spanLimit inCalendar calendarEnd daysBefore daysIn reached landed
+before-1957 = refl
+
+-- a day is 1440 minutes; 28098-4 is 0.000028098, and -12345+6 is -123450, which is as many minutes as -7407000000000 microseconds
+one-day : minutesOf (pos 86400000000) ≡ fin false 45 (pos 5)
+unfolding minutesOf over round units odd size span climb trailingZeros
+one-day = refl
+
+bstar : scaledOf (pos 28098) (negsuc 3) ≡ decimalOf 28098 9
+unfolding scaledOf poweredOf over decimalOf round units odd size span climb trailingZeros
+bstar = refl
+
+large : scaledOf (negsuc 12344) (pos 6) ≡ minutesOf (negsuc 7406999999999)
+unfolding scaledOf poweredOf over minutesOf round units odd size span climb trailingZeros
+large = refl
