@@ -1,4 +1,5 @@
 pub mod Layout
 pub mod Number
+pub mod Legal
 pub mod Refusals
 pub mod Read

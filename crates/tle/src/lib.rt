@@ -3,7 +3,11 @@
 ghost use mathlib.Core.Path.{_≡_};
 ghost use Rattle.tle.specs.Refusals.{numberOf};
 
+mod limits;
 mod reader;
+
+pub use limits::legal;
+pub use limits::magnitude;
 
 pub enum Class {
     Unclassified,

@@ -1,0 +1,13 @@
+use borrow.Author.Needs.{needs}
+use Rattle.tle.proofs.limits.piece_fits.Statement.{statement}
+use Rattle.tle.proofs.limits.piece_fits.Tie as tie
+
+pub piece-fits-spec : {M : Type 1} → statement M
+piece-fits-spec =
+    tie.close
+    (tie.spec
+    (λ c κs. search needs)
+    (λ c κs. search needs)
+    (λ c κs. search needs)
+    (λ c κs. search needs)
+    (λ c. cc))
