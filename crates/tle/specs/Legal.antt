@@ -3,17 +3,14 @@ use Prim.Native.Nat.{ℕ}
 use mathlib.Core.Bool.{Bool, true, not, _&&_, _||_}
 use lib.Dec.{eqb, leb, ltb}
 use lib.IntN.{natAbs}
+use Rattle.instant.specs.Calendar.{dayInRange}
 use Rattle.tle.specs.Layout.{isBlank, isLetter}
 use Rattle.tle.specs.declared.Designator.{Designator}
 use Rattle.tle.specs.declared.Designator.the-variants.{Blank, Piece}
 use Rattle.tle.specs.declared.Scaled.{Scaled}
 use Rattle.tle.specs.declared.Record.{Record}
 
--- "Ranges": the day from 1 up to, but not including, 367, in 10 ^ -8 of a day
-abbrev pub dayInRange : ℕ → Bool
-dayInRange day = leb 100000000 day && ltb day 36700000000
-
--- inclination at most 180.0000
+-- "Ranges": the day as crate `instant` says; inclination at most 180.0000
 abbrev pub inclinationInRange : ℕ → Bool
 inclinationInRange n = leb n 1800000
 
@@ -27,7 +24,7 @@ motionInRange n = ltb 0 n
 
 unfoldable pub inRanges : Record → Bool
 inRanges r =
-    dayInRange (r .day) && inclinationInRange (r .inclination) && angleInRange (r .node)
+    dayInRange (r .year) (r .day) && inclinationInRange (r .inclination) && angleInRange (r .node)
     && angleInRange (r .perigee) && angleInRange (r .anomaly) && motionInRange (r .motion)
 
 -- five digits, a letter A-Z, then two places of letters or blanks, letters first

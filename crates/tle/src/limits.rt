@@ -3,16 +3,11 @@
 ghost use mathlib.Core.Path.{_≡_};
 ghost use lib.IntN.{natAbs};
 ghost use Rattle.tle.specs.Layout.{isLetter};
-ghost use Rattle.tle.specs.Legal.{dayInRange, inclinationInRange, angleInRange, motionInRange, inRanges, pieceFits, designatorFits, scaledFits, inLayout, legal};
+ghost use Rattle.tle.specs.Legal.{inclinationInRange, angleInRange, motionInRange, inRanges, pieceFits, designatorFits, scaledFits, inLayout, legal};
 use super::Designator;
 use super::Record;
 use super::Scaled;
-
-pub fn day_in_range(day: u64) -> bool
-    ensures { λ r. ⌜ r ≡ dayInRange day ⌝ }
-{
-    (100000000 <= day) & (day < 36700000000)
-}
+use instant::day_in_range;
 
 pub fn inclination_in_range(n: u64) -> bool
     ensures { λ r. ⌜ r ≡ inclinationInRange n ⌝ }
@@ -35,7 +30,7 @@ pub fn motion_in_range(n: u64) -> bool
 fn in_ranges(r: Record) -> bool
     ensures { λ b. ⌜ b ≡ inRanges r ⌝ }
 {
-    day_in_range(r.day)
+    day_in_range(r.year, r.day)
         & inclination_in_range(r.inclination)
         & angle_in_range(r.node)
         & angle_in_range(r.perigee)
