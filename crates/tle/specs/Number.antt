@@ -21,10 +21,13 @@ valueOn a (b ∷ bs) = valueOn (a * 10 + digitOf b) bs
 abbrev pub field : ℕ → ℕ → List ℕ → ℕ
 field at w line = valueOn 0 (take w (drop at line))
 
--- a digit adds itself, a minus sign 1, and nothing else adds
+-- what a byte adds under the checksum: a digit itself, a minus sign 1, and nothing else anything
+abbrev pub weightOf : ℕ → ℕ
+weightOf b = cond (eqb b (code "-")) 1 (digitOf b)
+
 unfoldable pub sum : List ℕ → ℕ
 sum [] = 0
-sum (b ∷ bs) = cond (eqb b (code "-")) 1 (digitOf b) + sum bs
+sum (b ∷ bs) = weightOf b + sum bs
 
 -- minus n
 unfoldable pub minus : ℕ → ℤ

@@ -8,6 +8,7 @@ use lib.IntN.{ℤ, pos}
 use lib.ListN.{length, take, getD}
 use Rattle.tle.specs.Layout.{agreed, isBlank, layout1, layout2}
 use Rattle.tle.specs.Number.{digitOf, field, sum, signed}
+use Rattle.tle.specs.Legal.{dayInRange, inclinationInRange, angleInRange, motionInRange}
 use Rattle.tle.specs.declared.Class.{Class}
 use Rattle.tle.specs.declared.Class.the-variants.{Unclassified, Classified, Secret}
 use Rattle.tle.specs.declared.Designator.{Designator}
@@ -31,7 +32,7 @@ abbrev pub unless : {A : Type 0} → Bool → A → A → A
 unless test refused next = cond test next refused
 
 -- the checksum of a line, over columns 1 to 68
-unfoldable pub checksumOf : List ℕ → ℕ
+abbrev pub checksumOf : List ℕ → ℕ
 checksumOf line = sum (take 68 line) % 10
 
 -- a line by its layout: refusals 1 to 4
@@ -42,7 +43,7 @@ verdictOf which layout line =
     (unless (eqb (agreed layout true line) 69) (verdict.Refused (Column which (agreed layout true line + 1)))
     (unless (eqb (checksumOf line) (digitOf (getD line 68 0))) (verdict.Refused (Checksum which)) verdict.Lawful)))
 
--- the catalogue number of a line, columns 3 to 7
+-- the catalogue number of a line, five digits in columns 3 to 7
 unfoldable pub numberAt : List ℕ → ℕ
 numberAt line = field 2 5 line
 
@@ -73,12 +74,24 @@ yearOf yy = cond (leb 57 yy) (1900 + yy) (2000 + yy)
 abbrev pub minusAt : ℕ → List ℕ → Bool
 minusAt at line = eqb (getD line at 0) (code "-")
 
+-- sign, point, eight digits in columns 34 to 43
+unfoldable pub ndotAt : List ℕ → ℤ
+ndotAt line = signed (minusAt 33 line) (field 35 8 line)
+
 -- sign, five digits, sign of the exponent, one digit; a zero mantissa reads with exponent 0
 unfoldable pub scaledAt : ℕ → List ℕ → Scaled
 scaledAt at line = record {
   mantissa = signed (minusAt at line) (field (at + 1) 5 line);
   exponent = cond (eqb (field (at + 1) 5 line) 0) (pos 0) (signed (minusAt (at + 6) line) (field (at + 7) 1 line));
 }
+
+-- ddd.dddddddd in columns 21 to 32, in 10 ^ -8 of a day
+unfoldable pub dayAt : List ℕ → ℕ
+dayAt line = field 20 3 line * 100000000 + field 24 8 line
+
+-- dd.dddddddd in columns 53 to 63, in 10 ^ -8 of a revolution a day
+unfoldable pub motionAt : List ℕ → ℕ
+motionAt line = field 52 2 line * 100000000 + field 55 8 line
 
 -- ddd.dddd in 0.0001 degree
 unfoldable pub degreesAt : ℕ → List ℕ → ℕ
@@ -91,8 +104,8 @@ fieldsOf line1 line2 = record {
   class = classOf (getD line1 7 0);
   designator = designatorAt line1;
   year = yearOf (field 18 2 line1);
-  day = field 20 3 line1 * 100000000 + field 24 8 line1;
-  ndot = signed (minusAt 33 line1) (field 35 8 line1);
+  day = dayAt line1;
+  ndot = ndotAt line1;
   nddot = scaledAt 44 line1;
   bstar = scaledAt 53 line1;
   ephemeris = field 62 1 line1;
@@ -102,7 +115,7 @@ fieldsOf line1 line2 = record {
   eccentricity = field 26 7 line2;
   perigee = degreesAt 34 line2;
   anomaly = degreesAt 43 line2;
-  motion = field 52 2 line2 * 100000000 + field 55 8 line2;
+  motion = motionAt line2;
   revolution = field 63 5 line2;
 }
 
@@ -114,19 +127,20 @@ formed (verdict.Refused why) r = form.Refused why
 unfoldable pub formOf : List ℕ → List ℕ → Form
 formOf line1 line2 = formed (pairOf line1 line2) (fieldsOf line1 line2)
 
--- day from 1 up to, but not including, 367
-unfoldable pub dayInRange : ℕ → Bool
-dayInRange day = leb 100000000 day && ltb day 36700000000
-
--- inclination at most 180.0000; other angles below 360.0000; mean motion above 0: refusal 6, in column order
+-- refusal 6: the first field out of its range, in column order
 unfoldable pub rangesOf : Record → Reading
 rangesOf r =
     unless (dayInRange (r .day)) (reading.Refused (Range Day))
-    (unless (leb (r .inclination) 1800000) (reading.Refused (Range Inclination))
-    (unless (ltb (r .node) 3600000) (reading.Refused (Range Node))
-    (unless (ltb (r .perigee) 3600000) (reading.Refused (Range Perigee))
-    (unless (ltb (r .anomaly) 3600000) (reading.Refused (Range Anomaly))
-    (unless (ltb 0 (r .motion)) (reading.Refused (Range Motion)) (reading.Record r))))))
+    (unless (inclinationInRange (r .inclination)) (reading.Refused (Range Inclination))
+    (unless (angleInRange (r .node)) (reading.Refused (Range Node))
+    (unless (angleInRange (r .perigee)) (reading.Refused (Range Perigee))
+    (unless (angleInRange (r .anomaly)) (reading.Refused (Range Anomaly))
+    (unless (motionInRange (r .motion)) (reading.Refused (Range Motion)) (reading.Record r))))))
+
+-- a form as a reading, its ranges not judged
+abbrev pub asReading : Form → Reading
+asReading (form.Fields r) = reading.Record r
+asReading (form.Refused why) = reading.Refused why
 
 -- what the form gives, by its ranges
 abbrev pub ranged : Form → Reading

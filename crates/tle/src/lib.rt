@@ -8,6 +8,8 @@ mod reader;
 
 pub use limits::legal;
 pub use limits::magnitude;
+pub use reader::checksum;
+pub use reader::read;
 
 pub enum Class {
     Unclassified,

@@ -1,7 +1,27 @@
-// Reading two lines: document 01, "The two lines" and refusals 1 to 6.
+// Reading two lines: document 01, "The two lines" and refusals 1 to 6. First their form, then the
+// ranges of their fields.
 
 ghost use mathlib.Core.Path.{_≡_};
-ghost use Rattle.tle.specs.Layout.{fits};
+ghost use mathlib.Core.Bool.{true};
+ghost use lib.ListN.{length, getD};
+ghost use Prim.Native.Nat.{_+_, _^_, _%_, _≤_, _<_};
+ghost use Rattle.tle.specs.Layout.{fits, agreed};
+ghost use Rattle.tle.specs.Number.{digitOf, valueOn, field, weightOf, sum, signed};
+ghost use Rattle.tle.specs.Read.{checksumOf, verdictOf, numberAt, pairOf, classOf, designatorAt, yearOf, ndotAt, scaledAt, degreesAt, dayAt, motionAt, fieldsOf, formOf, rangesOf, asReading, readOf};
+use super::Class;
+use super::Designator;
+use super::Field;
+use super::Form;
+use super::Line;
+use super::Reading;
+use super::Record;
+use super::Refusal;
+use super::Scaled;
+use super::Verdict;
+use super::limits::angle_in_range;
+use super::limits::day_in_range;
+use super::limits::inclination_in_range;
+use super::limits::motion_in_range;
 
 // Whether byte b may stand in a column of the class; after: the byte before it is a blank.
 fn fits_at(class: u8, after: bool, b: u8) -> bool
@@ -20,4 +40,327 @@ fn fits_at(class: u8, after: bool, b: u8) -> bool
         | ((class == b'S') & (blank | (b == b'+') | (b == b'-')))
         | ((class == b'E') & ((b == b'+') | (b == b'-')))
         | ((class == b'C') & ((b == b'U') | (b == b'C') | (b == b'S')))
+}
+
+// How many columns of the line, from the first, agree with the layout.
+fn agreeing(layout: &[u8], line: &[u8]) -> usize
+    requires { ⌜ length (now layout) ≡ length (now line) ⌝ }
+    ensures { λ r. ⌜ (r ≡ agreed (now (layout .entry)) true (now (line .entry))) × (r ≤ length (now (line .entry))) ⌝ }
+{
+    let mut after = true;
+    let mut i = 0;
+    while i < line.len() {
+        let b = line[i];
+        if !fits_at(layout[i], after, b) {
+            return i;
+        }
+        after = b == b' ';
+        i += 1;
+    }
+    i
+}
+
+// The digit that a byte shows, 0 where it is none.
+fn digit(b: u8) -> u64
+    ensures { λ r. ⌜ (r ≡ digitOf b) × (r ≤ 9) ⌝ }
+{
+    if b'0' <= b {
+        if b <= b'9' {
+            return (b - b'0') as u64;
+        }
+    }
+    0
+}
+
+// The whole number that the bytes show.
+fn value(s: &[u8]) -> u64
+    requires { ⌜ length (now s) ≤ 18 ⌝ }
+    ensures { λ r. ⌜ (r ≡ valueOn 0 (now (s .entry))) × (r < 10 ^ length (now (s .entry))) ⌝ }
+{
+    let mut a: u64 = 0;
+    let mut i = 0;
+    while i < s.len() {
+        a = a * 10 + digit(s[i]);
+        i += 1;
+    }
+    a
+}
+
+// The whole number in the w columns after the first at.
+fn field_at(line: &[u8], at: usize, w: usize) -> u64
+    requires { ⌜ (at + w ≤ length (now line)) × (w ≤ 18) ⌝ }
+    ensures { λ r. ⌜ (r ≡ field at w (now (line .entry))) × (r < 10 ^ w) ⌝ }
+{
+    value(&line[at..at + w])
+}
+
+// What a byte adds to the checksum.
+fn weight(b: u8) -> u64
+    ensures { λ r. ⌜ (r ≡ weightOf b) × (r ≤ 9) ⌝ }
+{
+    if b == b'-' {
+        return 1;
+    }
+    digit(b)
+}
+
+// The checksum digit of the bytes: the sum of what each adds, modulo 10.
+pub fn checksum(s: &[u8]) -> u64
+    ensures { λ r. ⌜ r ≡ sum (now (s .entry)) % 10 ⌝ }
+{
+    let mut t: u64 = 0;
+    let mut i = 0;
+    while i < s.len() {
+        t = (t + weight(s[i])) % 10;
+        i += 1;
+    }
+    t
+}
+
+// Refusals 1 to 4 of one line, by its layout.
+fn judge_line(which: Line, layout: &[u8], line: &[u8]) -> Verdict
+    requires { ⌜ length (now layout) ≡ 69 ⌝ }
+    ensures { λ r. ⌜ r ≡ verdictOf which (now (layout .entry)) (now (line .entry)) ⌝ }
+{
+    if line.len() != 69 {
+        return Verdict::Refused(Refusal::Length(which));
+    }
+    let n = agreeing(layout, line);
+    if n == 0 {
+        return Verdict::Refused(Refusal::Start(which));
+    }
+    if n != 69 {
+        return Verdict::Refused(Refusal::Column(which, n + 1));
+    }
+    if checksum(&line[0..68]) != digit(line[68]) {
+        return Verdict::Refused(Refusal::Checksum(which));
+    }
+    Verdict::Lawful
+}
+
+// The catalogue number of either line.
+fn number_at(line: &[u8]) -> u64
+    requires { ⌜ length (now line) ≡ 69 ⌝ }
+    ensures { λ r. ⌜ r ≡ numberAt (now (line .entry)) ⌝ }
+{
+    field_at(line, 2, 5)
+}
+
+// Refusals 1 to 5: line 1, then line 2, then both.
+fn judge_pair(line1: &[u8], line2: &[u8]) -> Verdict
+    ensures { λ r. ⌜ r ≡ pairOf (now (line1 .entry)) (now (line2 .entry)) ⌝ }
+{
+    let layout1 = b"1 DDDDDC RffffLll DDDDD.DDDDDDDD S.DDDDDDDD SDDDDDED SDDDDDED D RrrDD";
+    let layout2 = b"2 DDDDD RrD.DDDD RrD.DDDD DDDDDDD RrD.DDDD RrD.DDDD RD.DDDDDDDDRrrrDD";
+    let first = judge_line(Line::One, layout1, line1);
+    let Verdict::Lawful = first else {
+        return first;
+    };
+    let second = judge_line(Line::Two, layout2, line2);
+    let Verdict::Lawful = second else {
+        return second;
+    };
+    if number_at(line1) != number_at(line2) {
+        return Verdict::Refused(Refusal::Numbers);
+    }
+    Verdict::Lawful
+}
+
+fn class_at(line: &[u8]) -> Class
+    requires { ⌜ length (now line) ≡ 69 ⌝ }
+    ensures { λ r. ⌜ r ≡ classOf (getD (now (line .entry)) 7 0) ⌝ }
+{
+    let b = line[7];
+    if b == b'U' {
+        return Class::Unclassified;
+    }
+    if b == b'C' {
+        return Class::Classified;
+    }
+    Class::Secret
+}
+
+fn designator_at(line: &[u8]) -> Designator
+    requires { ⌜ length (now line) ≡ 69 ⌝ }
+    ensures { λ r. ⌜ r ≡ designatorAt (now (line .entry)) ⌝ }
+{
+    if line[9] == b' ' {
+        return Designator::Blank;
+    }
+    let launch = field_at(line, 9, 5);
+    Designator::Piece {
+        launch,
+        a: line[14],
+        b: line[15],
+        c: line[16],
+    }
+}
+
+fn year_at(line: &[u8]) -> u64
+    requires { ⌜ length (now line) ≡ 69 ⌝ }
+    ensures { λ r. ⌜ r ≡ yearOf (field 18 2 (now (line .entry))) ⌝ }
+{
+    let yy = field_at(line, 18, 2);
+    if 57 <= yy {
+        return 1900 + yy;
+    }
+    2000 + yy
+}
+
+// n, or minus n.
+fn with_sign(minus: bool, n: u64) -> i64
+    requires { ⌜ n < 10 ^ 9 ⌝ }
+    ensures { λ r. ⌜ r ≡ signed minus n ⌝ }
+{
+    if minus {
+        return 0 - (n as i64);
+    }
+    n as i64
+}
+
+fn scaled_at(line: &[u8], at: usize) -> Scaled
+    requires { ⌜ at + 8 ≤ length (now line) ⌝ }
+    ensures { λ r. ⌜ r ≡ scaledAt at (now (line .entry)) ⌝ }
+{
+    let digits = field_at(line, at + 1, 5);
+    let mantissa = with_sign(line[at] == b'-', digits);
+    if digits == 0 {
+        return Scaled {
+            mantissa,
+            exponent: 0,
+        };
+    }
+    let exponent = with_sign(line[at + 6] == b'-', field_at(line, at + 7, 1));
+    Scaled { mantissa, exponent }
+}
+
+// ddd.dddd in 0.0001 degree.
+fn degrees_at(line: &[u8], at: usize) -> u64
+    requires { ⌜ at + 8 ≤ length (now line) ⌝ }
+    ensures { λ r. ⌜ r ≡ degreesAt at (now (line .entry)) ⌝ }
+{
+    field_at(line, at, 3) * 10000 + field_at(line, at + 4, 4)
+}
+
+// Half the first derivative, in its last decimal place.
+fn ndot_at(line: &[u8]) -> i64
+    requires { ⌜ length (now line) ≡ 69 ⌝ }
+    ensures { λ r. ⌜ r ≡ ndotAt (now (line .entry)) ⌝ }
+{
+    with_sign(line[33] == b'-', field_at(line, 35, 8))
+}
+
+// ddd.dddddddd in 10 ^ -8 of a day.
+fn day_at(line: &[u8]) -> u64
+    requires { ⌜ length (now line) ≡ 69 ⌝ }
+    ensures { λ r. ⌜ r ≡ dayAt (now (line .entry)) ⌝ }
+{
+    field_at(line, 20, 3) * 100000000 + field_at(line, 24, 8)
+}
+
+// dd.dddddddd in 10 ^ -8 of a revolution a day.
+fn motion_at(line: &[u8]) -> u64
+    requires { ⌜ length (now line) ≡ 69 ⌝ }
+    ensures { λ r. ⌜ r ≡ motionAt (now (line .entry)) ⌝ }
+{
+    field_at(line, 52, 2) * 100000000 + field_at(line, 55, 8)
+}
+
+// The fields of two lawful lines.
+fn fields(line1: &[u8], line2: &[u8]) -> Record
+    requires { ⌜ (length (now line1) ≡ 69) × (length (now line2) ≡ 69) ⌝ }
+    ensures { λ r. ⌜ r ≡ fieldsOf (now (line1 .entry)) (now (line2 .entry)) ⌝ }
+{
+    let number = number_at(line1);
+    let class = class_at(line1);
+    let designator = designator_at(line1);
+    let year = year_at(line1);
+    let day = day_at(line1);
+    let ndot = ndot_at(line1);
+    let nddot = scaled_at(line1, 44);
+    let bstar = scaled_at(line1, 53);
+    let ephemeris = field_at(line1, 62, 1);
+    let element = field_at(line1, 64, 4);
+    let inclination = degrees_at(line2, 8);
+    let node = degrees_at(line2, 17);
+    let eccentricity = field_at(line2, 26, 7);
+    let perigee = degrees_at(line2, 34);
+    let anomaly = degrees_at(line2, 43);
+    let motion = motion_at(line2);
+    let revolution = field_at(line2, 63, 5);
+    Record {
+        number,
+        class,
+        designator,
+        year,
+        day,
+        ndot,
+        nddot,
+        bstar,
+        ephemeris,
+        element,
+        inclination,
+        node,
+        eccentricity,
+        perigee,
+        anomaly,
+        motion,
+        revolution,
+    }
+}
+
+// The form of two lines: refusals 1 to 5, or the fields.
+fn read_form(line1: &[u8], line2: &[u8]) -> Form
+    ensures { λ r. ⌜ r ≡ formOf (now (line1 .entry)) (now (line2 .entry)) ⌝ }
+{
+    let verdict = judge_pair(line1, line2);
+    match verdict {
+        Verdict::Refused(refusal) => Form::Refused(refusal),
+        Verdict::Lawful => Form::Fields(fields(line1, line2)),
+    }
+}
+
+// The ranges of the fields: refusal 6, or the record.
+fn judge_ranges(r: Record) -> Reading
+    ensures { λ answer. ⌜ answer ≡ rangesOf r ⌝ }
+{
+    if !day_in_range(r.day) {
+        return Reading::Refused(Refusal::Range(Field::Day));
+    }
+    if !inclination_in_range(r.inclination) {
+        return Reading::Refused(Refusal::Range(Field::Inclination));
+    }
+    if !angle_in_range(r.node) {
+        return Reading::Refused(Refusal::Range(Field::Node));
+    }
+    if !angle_in_range(r.perigee) {
+        return Reading::Refused(Refusal::Range(Field::Perigee));
+    }
+    if !angle_in_range(r.anomaly) {
+        return Reading::Refused(Refusal::Range(Field::Anomaly));
+    }
+    if !motion_in_range(r.motion) {
+        return Reading::Refused(Refusal::Range(Field::Motion));
+    }
+    Reading::Record(r)
+}
+
+// A form as a reading.
+fn as_reading(form: Form) -> Reading
+    ensures { λ r. ⌜ r ≡ asReading form ⌝ }
+{
+    match form {
+        Form::Fields(record) => Reading::Record(record),
+        Form::Refused(refusal) => Reading::Refused(refusal),
+    }
+}
+
+pub fn read(line1: &[u8], line2: &[u8]) -> Reading
+    ensures { λ r. ⌜ r ≡ readOf (now (line1 .entry)) (now (line2 .entry)) ⌝ }
+{
+    let form = read_form(line1, line2);
+    let Form::Fields(record) = form else {
+        return as_reading(form);
+    };
+    judge_ranges(record)
 }
