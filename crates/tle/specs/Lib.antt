@@ -3,3 +3,4 @@ pub mod Number
 pub mod Legal
 pub mod Refusals
 pub mod Read
+pub mod Least

@@ -9,9 +9,6 @@ use Rattle.tle.specs.Layout.{agreed}
 use Rattle.tle.proofs.Columns.{more, stop, done}
 use Rattle.tle.proofs.reader.agreeing.Statement.{statement}
 use Rattle.tle.proofs.reader.agreeing.Tie as tie
-use Rattle.tle.proofs.reader.agreeing.Reads as reads
-use Rattle.tle.proofs.reader.agreeing.Lts as lts
-use Rattle.tle.proofs.reader.fits_at.Reads as fits-at-reads
 
 abbrev Inv-loop : tie.InvT-loop
 Inv-loop layout line after₀ i₀ after i =
@@ -20,28 +17,10 @@ Inv-loop layout line after₀ i₀ after i =
 abbrev μ-loop : tie.MeasureT-loop
 μ-loop layout line after₀ i₀ after i = length line - i
 
-loop-holds : tie.Need-loop-holds Inv-loop μ-loop
-loop-holds c = search needs
-
-shared-slice-read-b : tie.Need-shared-slice-read-b Inv-loop μ-loop
-shared-slice-read-b c = search needs
-
-shared-slice-read-fits-at : tie.Need-shared-slice-read-fits-at Inv-loop μ-loop
-shared-slice-read-fits-at c = search needs
-
-fits-at-requires : tie.Need-fits-at-requires Inv-loop μ-loop
-fits-at-requires c κs = search needs
-
 returns : tie.Need-returns Inv-loop μ-loop
 returns c =
     let l = c .before .before .before .before .before in
     (stop _ _ _ _ _ (l .before .before .before .pre) (l .loop .inv .1) (search needs) (sym (c .before .fits-at .ensures) ∙ not-true _ (c .if1 .taken)), search needs)
-
-add-i : tie.Need-add-i Inv-loop μ-loop
-add-i c = search needs
-
-loop-less : tie.Need-loop-less Inv-loop μ-loop
-loop-less c = search needs
 
 loop-again : tie.Need-loop-again Inv-loop μ-loop
 loop-again c =
@@ -55,14 +34,5 @@ pub agreeing-spec : {M : Type 1} → statement M
 agreeing-spec =
     tie.close
     (tie.spec
-    Inv-loop
-    μ-loop
-    loop-holds
-    shared-slice-read-b
-    shared-slice-read-fits-at
-    fits-at-requires
-    returns
-    add-i
-    loop-less
-    loop-again
-    returns-2)
+    Inv-loop μ-loop (λ c. search needs) (λ c. search needs) (λ c. search needs) (λ c κs. search needs) returns (λ c. search needs) (λ c. search needs)
+    loop-again returns-2)

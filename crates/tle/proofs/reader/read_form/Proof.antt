@@ -8,28 +8,10 @@ use Rattle.tle.proofs.Judged.{lengths}
 use borrow.Author.Needs.{needs}
 use Rattle.tle.proofs.reader.read_form.Statement.{statement}
 use Rattle.tle.proofs.reader.read_form.Tie as tie
-use Rattle.tle.proofs.reader.read_form.Reads as reads
-use Rattle.tle.proofs.reader.read_form.Lts as lts
-use Rattle.tle.proofs.reader.fields.Reads as fields-reads
-use Rattle.tle.proofs.reader.judge_pair.Reads as judge-pair-reads
 
--- src/reader.rt:279:9
-judge-pair-requires : tie.Need-judge-pair-requires
-judge-pair-requires c κs = search needs
-
--- src/reader.rt:281:26
-enum-known-verdict : tie.Need-enum-known-verdict
-enum-known-verdict c = search needs
-
--- src/reader.rt:282:41
-enum-told : tie.Need-enum-told
-enum-told c = search needs
-
--- src/reader.rt:282:41
 fields-requires : tie.Need-fields-requires
 fields-requires c κs = lengths _ _ (sym (c .before .before .judge-pair .ensures) ∙ c .enum-told .given .1)
 
--- src/reader.rt:276:1
 returns : tie.Need-returns
 unfolding formOf
 returns c =
@@ -37,7 +19,6 @@ returns c =
     let a = s .before .before .before .args in
     ap (λ (v : Verdict). formed v (fieldsOf (now (a .line1)) (now (a .line2)))) (sym (c .before .verdict .given .1) ∙ s .judge-pair .ensures)
 
--- src/reader.rt:276:1
 returns-2 : tie.Need-returns-2
 unfolding formOf
 returns-2 c =
@@ -49,4 +30,5 @@ returns-2 c =
 pub read-form-spec : {M : Type 1} → statement M
 read-form-spec =
     tie.close
-    (tie.spec judge-pair-requires enum-known-verdict enum-told fields-requires returns returns-2)
+    (tie.spec
+    (λ c κs. search needs) (λ c. search needs) (λ c. search needs) fields-requires returns returns-2)

@@ -8,9 +8,6 @@ use Rattle.tle.specs.Number.{valueOn}
 use Rattle.tle.proofs.Steps.{value-more, value-done, places, small}
 use Rattle.tle.proofs.reader.value.Statement.{statement}
 use Rattle.tle.proofs.reader.value.Tie as tie
-use Rattle.tle.proofs.reader.value.Reads as reads
-use Rattle.tle.proofs.reader.value.Lts as lts
-use Rattle.tle.proofs.reader.digit.Reads as digit-reads
 
 abbrev Inv-loop : tie.InvT-loop
 Inv-loop s a₀ i₀ a i = (i ≤ length s) × (a < 10 ^ i) × (valueOn a (drop i s) ≡ valueOn 0 s)
@@ -18,35 +15,12 @@ Inv-loop s a₀ i₀ a i = (i ≤ length s) × (a < 10 ^ i) × (valueOn a (drop 
 abbrev μ-loop : tie.MeasureT-loop
 μ-loop s a₀ i₀ a i = length s - i
 
--- src/rt:26:5
-loop-holds : tie.Need-loop-holds Inv-loop μ-loop
-loop-holds c = search needs
-
--- src/rt:27:13
 mul-a : tie.Need-mul-a Inv-loop μ-loop
 mul-a c = let l = c .before .loop in omega (arith, small (l .a) (l .i) (l .inv .1) (omega arith))
 
--- src/rt:27:28
-shared-slice-read-digit : tie.Need-shared-slice-read-digit Inv-loop μ-loop
-shared-slice-read-digit c = search needs
-
--- src/rt:27:22
-digit-requires : tie.Need-digit-requires Inv-loop μ-loop
-digit-requires c κs = search needs
-
--- src/rt:27:13
 add-a : tie.Need-add-a Inv-loop μ-loop
 add-a c = let l = c .before .before .before .loop in omega (arith, small (l .a) (l .i) (l .inv .1) (omega arith))
 
--- src/rt:28:9
-add-i : tie.Need-add-i Inv-loop μ-loop
-add-i c = search needs
-
--- src/rt:26:5
-loop-less : tie.Need-loop-less Inv-loop μ-loop
-loop-less c = search needs
-
--- src/rt:26:5
 loop-again : tie.Need-loop-again Inv-loop μ-loop
 loop-again c =
     let l = c .before .before .before .loop in
@@ -56,7 +30,6 @@ loop-again c =
       rw (c .digit .ensures .0) (sym (value-more s (l .i) (l .a) (omega arith)) ∙ l .inv .2),
     )
 
--- src/rt:20:1
 returns : tie.Need-returns Inv-loop μ-loop
 returns c =
     let l = c .before .loop in
@@ -68,14 +41,5 @@ pub value-spec : {M : Type 1} → statement M
 value-spec =
     tie.close
     (tie.spec
-    Inv-loop
-    μ-loop
-    loop-holds
-    mul-a
-    shared-slice-read-digit
-    digit-requires
-    add-a
-    add-i
-    loop-less
-    loop-again
+    Inv-loop μ-loop (λ c. search needs) mul-a (λ c. search needs) (λ c κs. search needs) add-a (λ c. search needs) (λ c. search needs) loop-again
     returns)
