@@ -1,0 +1,10 @@
+use lib.Ieee.{round, units, odd, size, span, climb, ofBits, neg}
+use lib.Count.{trailingZeros}
+use Rattle.resonance.specs.Place.{dotsAt}
+use borrow.Author.Needs.{needs}
+use Rattle.resonance.proofs.place.Place.dots.Statement.{statement}
+use Rattle.resonance.proofs.place.Place.dots.Tie as tie
+
+pub dots-spec : {M : Type 1} → statement M
+unfolding dotsAt round units odd size span climb trailingZeros ofBits neg
+dots-spec = tie.close (tie.spec (λ c κs. search needs) (λ c κs. search needs) (λ c. cc))

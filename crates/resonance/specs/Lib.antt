@@ -1,0 +1,6 @@
+pub mod Dsinit
+pub mod Dots
+pub mod Place
+pub mod Dspace
+pub mod Time
+pub mod Finite
