@@ -1,4 +1,7 @@
-// The opened satellite's parts, as structs alone, with 002's names.
+// The opened satellite's parts, as structs alone: 002's record (its struct elsetrec) under 002's names.
+
+// The elements that sgp4init is handed. An opened satellite has them too, `no` then being the mean
+// motion that initl recovers: 002 writes it over the one handed in.
 pub struct Elements {
     pub bstar: f64,
     pub ecco: f64,
@@ -9,6 +12,7 @@ pub struct Elements {
     pub nodeo: f64,
 }
 
+// The drag terms.
 pub struct Drag {
     pub eta: f64,
     pub cc1: f64,
@@ -21,6 +25,7 @@ pub struct Drag {
     pub sinmao: f64,
 }
 
+// The drag terms of higher powers of time: zeros where isimp is 1.
 pub struct Higher {
     pub d2: f64,
     pub d3: f64,
@@ -30,6 +35,7 @@ pub struct Higher {
     pub t5cof: f64,
 }
 
+// The secular rates of the Earth's own gravity, and the drag on the node.
 pub struct Rates {
     pub mdot: f64,
     pub argpdot: f64,
@@ -37,12 +43,34 @@ pub struct Rates {
     pub nodecf: f64,
 }
 
+// What the long- and short-period terms take from the inclination. In deep space sgp4 makes them anew
+// from the perturbed inclination at every time.
 pub struct Terms {
     pub con41: f64,
     pub x1mth2: f64,
     pub x7thm1: f64,
     pub xlcof: f64,
     pub aycof: f64,
+}
+
+// What sgp4 computes at every time and always the same: pow(xke / no, x2o3), sin(inclo), cos(inclo).
+// Not in 002's record.
+pub struct Kept {
+    pub ao: f64,
+    pub sinio: f64,
+    pub cosio: f64,
+}
+
+// All that a near-Earth satellite is made of; a deep-space satellite has it too. isimp is 1 in deep
+// space and where the perigee is below 220 km.
+pub struct NearEarth {
+    pub elements: Elements,
+    pub isimp: bool,
+    pub drag: Drag,
+    pub higher: Higher,
+    pub rates: Rates,
+    pub terms: Terms,
+    pub kept: Kept,
 }
 
 // What dscom keeps of one body, the Sun or the Moon, for dpper. 002 has these twice: for the Sun as
@@ -114,4 +142,23 @@ pub struct Integrator {
     pub argpo: f64,
     pub argpdot: f64,
     pub gsto: f64,
+}
+
+// What a deep-space satellite has besides.
+pub struct DeepSpace {
+    pub rates: SecularRates,
+    pub periodics: LunarSolar,
+    pub integrator: Integrator,
+}
+
+// 002's method: 'n' or 'd'.
+pub enum Method {
+    NearEarth,
+    DeepSpace(DeepSpace),
+}
+
+// Everything about an opened satellite that no request changes.
+pub struct Model {
+    pub near: NearEarth,
+    pub method: Method,
 }

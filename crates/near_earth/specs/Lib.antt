@@ -1,0 +1,4 @@
+pub mod Powers
+pub mod Initl
+pub mod Sgp4init
+pub mod Finite

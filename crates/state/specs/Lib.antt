@@ -1,0 +1,6 @@
+pub mod Secular
+pub mod Kepler
+pub mod Periodics
+pub mod Orientation
+pub mod Answer
+pub mod Sgp4

@@ -1,0 +1,85 @@
+// What one step of sgp4 hands to the next, under 002's names.
+
+// The angles and the drag at a time.
+pub struct Secular {
+    pub mm: f64,
+    pub argpm: f64,
+    pub nodem: f64,
+    pub tempa: f64,
+    pub tempe: f64,
+    pub templ: f64,
+}
+
+// The mean elements; root is the square root of am.
+pub struct Mean {
+    pub am: f64,
+    pub root: f64,
+    pub nm: f64,
+    pub em: f64,
+}
+
+// The mean angles, each less whole turns.
+pub struct Angles {
+    pub nodem: f64,
+    pub argpm: f64,
+    pub mm: f64,
+}
+
+// The elements with the lunar-solar periodics.
+pub struct Perturbed {
+    pub ep: f64,
+    pub xincp: f64,
+    pub argpp: f64,
+    pub nodep: f64,
+    pub mp: f64,
+    pub sinip: f64,
+    pub cosip: f64,
+}
+
+// With the long-period terms.
+pub struct Long {
+    pub axnl: f64,
+    pub aynl: f64,
+    pub u: f64,
+}
+
+// The eccentric anomaly after some rounds, the last correction, and the sine and cosine that
+// the last round took.
+pub struct Anomaly {
+    pub eo1: f64,
+    pub tem5: f64,
+    pub sineo1: f64,
+    pub coseo1: f64,
+    pub rounds: u8,
+}
+
+// Short-period preliminary quantities; pl is the semi-latus rectum.
+pub struct Latus {
+    pub ecose: f64,
+    pub esine: f64,
+    pub el2: f64,
+    pub pl: f64,
+}
+
+// Position and velocity in the orbit's plane.
+pub struct Plane {
+    pub rl: f64,
+    pub rdotl: f64,
+    pub rvdotl: f64,
+    pub betal: f64,
+    pub su: f64,
+    pub sin2u: f64,
+    pub cos2u: f64,
+    pub temp1: f64,
+    pub temp2: f64,
+}
+
+// With the short-period terms.
+pub struct Short {
+    pub mrt: f64,
+    pub su: f64,
+    pub xnode: f64,
+    pub xinc: f64,
+    pub mvt: f64,
+    pub rvdot: f64,
+}

@@ -1,0 +1,104 @@
+// 002's sgp4: the long- and short-period terms.
+ghost use mathlib.Core.Path.{_≡_};
+ghost use Rattle.state.specs.Periodics as P;
+use crate::parts::Anomaly;
+use crate::parts::Latus;
+use crate::parts::Long;
+use crate::parts::Mean;
+use crate::parts::Perturbed;
+use crate::parts::Plane;
+use crate::parts::Short;
+use elementary::atan2;
+use elementary::rem_turn;
+use elementary::sin_cos;
+use elementary::sqrt;
+use satellite::Terms;
+use wgs72::J2;
+use wgs72::xke;
+
+pub fn long_period(p: Perturbed, am: f64, k: Terms) -> Long
+    ensures { λ r. ⌜ r ≡ P.longPeriod p am k ⌝ }
+{
+    let w = sin_cos(p.argpp);
+    let axnl = p.ep * w.cos;
+    let temp = 1.0 / (am * (1.0 - p.ep * p.ep));
+    let aynl = p.ep * w.sin + temp * k.aycof;
+    let xl = p.mp + p.argpp + p.nodep + temp * k.xlcof * axnl;
+    let u = rem_turn(xl - p.nodep);
+    Long { axnl, aynl, u }
+}
+
+pub fn latus(q: Long, k: Anomaly, am: f64) -> Latus
+    ensures { λ r. ⌜ r ≡ P.latus q k am ⌝ }
+{
+    let ecose = q.axnl * k.coseo1 + q.aynl * k.sineo1;
+    let esine = q.axnl * k.sineo1 - q.aynl * k.coseo1;
+    let el2 = q.axnl * q.axnl + q.aynl * q.aynl;
+    Latus {
+        ecose,
+        esine,
+        el2,
+        pl: am * (1.0 - el2),
+    }
+}
+
+// Refusal 13.
+pub fn negative_latus(l: Latus) -> bool
+    ensures { λ r. ⌜ r ≡ P.negativeLatus l ⌝ }
+{
+    l.pl < 0.0
+}
+
+pub fn plane(q: Long, k: Anomaly, m: Mean, l: Latus) -> Plane
+    ensures { λ r. ⌜ r ≡ P.plane q k m l ⌝ }
+{
+    let rl = m.am * (1.0 - l.ecose);
+    let rdotl = m.root * l.esine / rl;
+    let rvdotl = sqrt(l.pl) / rl;
+    let betal = sqrt(1.0 - l.el2);
+    let temp = l.esine / (1.0 + betal);
+    let sinu = m.am / rl * (k.sineo1 - q.aynl - q.axnl * temp);
+    let cosu = m.am / rl * (k.coseo1 - q.axnl + q.aynl * temp);
+    let su = atan2(sinu, cosu);
+    let sin2u = (cosu + cosu) * sinu;
+    let cos2u = 1.0 - 2.0 * sinu * sinu;
+    let temp = 1.0 / l.pl;
+    let temp1 = 0.5 * J2 * temp;
+    Plane {
+        rl,
+        rdotl,
+        rvdotl,
+        betal,
+        su,
+        sin2u,
+        cos2u,
+        temp1,
+        temp2: temp1 * temp,
+    }
+}
+
+pub fn short_period(p: Perturbed, nm: f64, k: Terms, l: Plane) -> Short
+    ensures { λ r. ⌜ r ≡ P.shortPeriod p nm k l ⌝ }
+{
+    let mrt = l.rl * (1.0 - 1.5 * l.temp2 * l.betal * k.con41) + 0.5 * l.temp1 * k.x1mth2 * l.cos2u;
+    let su = l.su - 0.25 * l.temp2 * k.x7thm1 * l.sin2u;
+    let xnode = p.nodep + 1.5 * l.temp2 * p.cosip * l.sin2u;
+    let xinc = p.xincp + 1.5 * l.temp2 * p.cosip * p.sinip * l.cos2u;
+    let mvt = l.rdotl - nm * l.temp1 * k.x1mth2 * l.sin2u / xke();
+    let rvdot = l.rvdotl + nm * l.temp1 * (k.x1mth2 * l.cos2u + 1.5 * k.con41) / xke();
+    Short {
+        mrt,
+        su,
+        xnode,
+        xinc,
+        mvt,
+        rvdot,
+    }
+}
+
+// Refusal 14.
+pub fn decayed(s: Short) -> bool
+    ensures { λ r. ⌜ r ≡ P.decayed s ⌝ }
+{
+    s.mrt < 1.0
+}

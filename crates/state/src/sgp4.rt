@@ -1,0 +1,104 @@
+// 002's sgp4 for a near-Earth satellite, and its steps from the perturbed elements on.
+ghost use mathlib.Core.Path.{_≡_};
+ghost use Rattle.state.specs.Sgp4 as R;
+use crate::answer::Answer;
+use crate::answer::Refusal;
+use crate::answer::State;
+use crate::kepler::kepler;
+use crate::orientation::finite_state;
+use crate::orientation::state;
+use crate::parts::Angles;
+use crate::parts::Anomaly;
+use crate::parts::Latus;
+use crate::parts::Long;
+use crate::parts::Mean;
+use crate::parts::Perturbed;
+use crate::parts::Secular;
+use crate::parts::Short;
+use crate::periodics::decayed;
+use crate::periodics::latus;
+use crate::periodics::long_period;
+use crate::periodics::negative_latus;
+use crate::periodics::plane;
+use crate::periodics::short_period;
+use crate::secular::angles;
+use crate::secular::mean;
+use crate::secular::mended;
+use crate::secular::no_motion;
+use crate::secular::outside;
+use crate::secular::secular;
+use satellite::NearEarth;
+use satellite::Terms;
+
+fn given(s: State, rounds: u8) -> Answer
+    ensures { λ r. ⌜ r ≡ R.given s rounds ⌝ }
+{
+    if finite_state(s) {
+        return Answer::Given(s, rounds);
+    }
+    Answer::Refused(Refusal::NotFinite)
+}
+
+fn placed(s: Short, rounds: u8) -> Answer
+    ensures { λ r. ⌜ r ≡ R.placed s rounds ⌝ }
+{
+    if decayed(s) {
+        return Answer::Refused(Refusal::Decayed);
+    }
+    given(state(s), rounds)
+}
+
+fn shortened(p: Perturbed, m: Mean, k: Terms, q: Long, e: Anomaly, l: Latus) -> Answer
+    ensures { λ r. ⌜ r ≡ R.shortened p m k q e l ⌝ }
+{
+    if negative_latus(l) {
+        return Answer::Refused(Refusal::SemiLatusRectum);
+    }
+    placed(short_period(p, m.nm, k, plane(q, e, m, l)), e.rounds)
+}
+
+// From the long-period terms on.
+pub fn periodics(p: Perturbed, m: Mean, k: Terms) -> Answer
+    ensures { λ r. ⌜ r ≡ R.periodics p m k ⌝ }
+{
+    let q = long_period(p, m.am, k);
+    let e = kepler(q);
+    shortened(p, m, k, q, e, latus(q, e, m.am))
+}
+
+fn unperturbed(s: NearEarth, em: f64, a: Angles) -> Perturbed
+    ensures { λ r. ⌜ r ≡ R.unperturbed s em a ⌝ }
+{
+    let ep = mended(em);
+    Perturbed {
+        ep,
+        xincp: s.elements.inclo,
+        argpp: a.argpm,
+        nodep: a.nodem,
+        mp: a.mm,
+        sinip: s.kept.sinio,
+        cosip: s.kept.cosio,
+    }
+}
+
+fn averaged(s: NearEarth, g: Secular, m: Mean) -> Answer
+    ensures { λ r. ⌜ r ≡ R.averaged s g m ⌝ }
+{
+    if outside(m) {
+        return Answer::Refused(Refusal::MeanElements);
+    }
+    let p = unperturbed(s, m.em, angles(s.elements.no, g));
+    let k = s.terms;
+    periodics(p, m, k)
+}
+
+// The state at t minutes from the epoch.
+pub fn sgp4(s: NearEarth, t: f64) -> Answer
+    ensures { λ r. ⌜ r ≡ R.sgp4 s t ⌝ }
+{
+    let g = secular(s, t);
+    if no_motion(s.elements.no) {
+        return Answer::Refused(Refusal::MeanMotion);
+    }
+    averaged(s, g, mean(s.kept.ao, s.elements.ecco, g))
+}
