@@ -13,7 +13,7 @@ use lib.Ieee.Fits.{down-pos, and-l, and-r}
 use lib.Ieee.Exact.{HasValue}
 use Rattle.elementary.specs.Cube.{mant, power, normal}
 use Rattle.elementary.specs.Claims.{CubeScaled}
-use Rattle.elementary.proofs.Patterns.{H, rescale, read-value, normal-value, subnormal-value, finite-bits}
+use Rattle.elementary.proofs.Patterns.{H, rescale, regroup, read-value, normal-value, subnormal-value, finite-bits}
 
 pub no-nan : (x : Float) → normal x ≡ true → T (not (isNan x))
 unfolding normal isNan le
@@ -54,9 +54,6 @@ normal-field (fin false m e) f h = (too-small, finite-bits m e f)
         not-le-of-lt (mod-lt (toBits binary64 (fin false m e)) (zero-lt-suc 4503599627370495)) (le-of-mul-le-mul-right i (down-pos e))
 
 -- ---- x is m times 8 to the k
-regroup : (a p r d : ℕ) → a * (p * r) * d ≡ a * r * (p * d)
-regroup a p r d = simp (mul-assoc, mul-left-comm)
-
 eight : (k : ℕ) → 8 ^ k ≡ 2 ^ (k * 3)
 eight zero = refl
 eight (suc k) =

@@ -1,7 +1,7 @@
 -- The bit patterns of f64 that are positive and finite, and the numbers that they stand for. Assumes nothing.
 use mathlib.Core.Path.{_≡_, refl, sym, ap, _∙_, subst}
 use Prim.Native.Nat.{ℕ, zero, suc, _+_, _-_, _*_, _/_, _%_, _^_, _≤_, _<_}
-use native.Mathlib.Nat.{le-of-eq, lt-of-lt-of-le, lt-irrefl, mul-lt-mul-of-pos-right, mul-right-comm, mul-one, zero-mul, mul-pos, div-lt-iff-lt-mul, mod-eq-of-lt, mod-lt, zero-lt-suc, eq-of-mul-eq-mul-right}
+use native.Mathlib.Nat.{le-of-eq, lt-of-lt-of-le, lt-irrefl, mul-lt-mul-of-pos-right, mul-right-comm, mul-assoc, mul-left-comm, mul-one, zero-mul, mul-pos, div-lt-iff-lt-mul, mod-eq-of-lt, mod-lt, zero-lt-suc, eq-of-mul-eq-mul-right}
 use native.Mathlib.Omega.{arith}
 use mathlib.Core.Bool.{Bool, true, false, not, cond, _&&_, true≢false, false≢true}
 use lib.IntN.{ℤ, pos}
@@ -29,6 +29,9 @@ rescale (fin t m e) s a c b d p h v = (
   eq-of-mul-eq-mul-right c p (m * up e * d) (b * down e)
       (mul-right-comm (m * up e) d c ∙ ap (λ (z : ℕ). z * d) (v .1) ∙ mul-right-comm a (down e) d ∙ ap (λ (z : ℕ). z * down e) h ∙ mul-right-comm b c (down e)),
 )
+
+pub regroup : (a p r d : ℕ) → a * (p * r) * d ≡ a * r * (p * d)
+regroup a p r d = simp (mul-assoc, mul-left-comm)
 
 -- ---- no NaN: what is above zero, and a pattern below the infinity's
 pub above-is-number : (x : Float) → lt (fin false 0 (pos 0)) x ≡ true → T (not (isNan x))
