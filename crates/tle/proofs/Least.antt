@@ -11,7 +11,8 @@ use lib.ListN.{length, getD}
 use Rattle.tle.specs.Layout.{agreed, layout1, layout2}
 use Rattle.tle.specs.Number.{digitOf}
 use Rattle.tle.specs.Read.{unless, then, checksumOf, verdictOf, numberAt, pairOf, fieldsOf, formed, formOf, rangesOf, ranged, readOf}
-use Rattle.tle.specs.Legal.{dayInRange, inclinationInRange, angleInRange, motionInRange}
+use Rattle.instant.specs.Calendar.{dayInRange}
+use Rattle.tle.specs.Legal.{inclinationInRange, angleInRange, motionInRange}
 use Rattle.tle.specs.Least.{FirstFault, layoutOf, lineOf, FirstColumn}
 use Rattle.tle.specs.declared.Record.{Record}
 use Rattle.tle.specs.declared.Line.{Line}
@@ -90,7 +91,7 @@ neither false a b p q = p
 ranges-not : (r : Record) → is3 (rangesOf r) ≡ false
 unfolding rangesOf
 ranges-not r =
-    neither (dayInRange (r .day)) _ _ refl
+    neither (dayInRange (r .year) (r .day)) _ _ refl
     (neither (inclinationInRange (r .inclination)) _ _ refl
     (neither (angleInRange (r .node)) _ _ refl
     (neither (angleInRange (r .perigee)) _ _ refl

@@ -8,7 +8,8 @@ use lib.IntN.{ℤ, pos}
 use lib.ListN.{length, take, getD}
 use Rattle.tle.specs.Layout.{agreed, isBlank, layout1, layout2}
 use Rattle.tle.specs.Number.{digitOf, field, sum, signed}
-use Rattle.tle.specs.Legal.{dayInRange, inclinationInRange, angleInRange, motionInRange}
+use Rattle.instant.specs.Calendar.{dayInRange}
+use Rattle.tle.specs.Legal.{inclinationInRange, angleInRange, motionInRange}
 use Rattle.tle.specs.declared.Class.{Class}
 use Rattle.tle.specs.declared.Class.the-variants.{Unclassified, Classified, Secret}
 use Rattle.tle.specs.declared.Designator.{Designator}
@@ -130,7 +131,7 @@ formOf line1 line2 = formed (pairOf line1 line2) (fieldsOf line1 line2)
 -- refusal 6: the first field out of its range, in column order
 unfoldable pub rangesOf : Record → Reading
 rangesOf r =
-    unless (dayInRange (r .day)) (reading.Refused (Range Day))
+    unless (dayInRange (r .year) (r .day)) (reading.Refused (Range Day))
     (unless (inclinationInRange (r .inclination)) (reading.Refused (Range Inclination))
     (unless (angleInRange (r .node)) (reading.Refused (Range Node))
     (unless (angleInRange (r .perigee)) (reading.Refused (Range Perigee))

@@ -1,7 +1,10 @@
 // Two-line element sets: the record, reading and writing.
 
 ghost use mathlib.Core.Path.{_≡_};
+ghost use Rattle.instant.specs.Calendar.{epochOf};
 ghost use Rattle.tle.specs.Refusals.{numberOf};
+use instant::Epoch;
+use instant::epoch_instant;
 
 mod limits;
 mod reader;
@@ -51,6 +54,13 @@ pub struct Record {
     pub anomaly: u64,
     pub motion: u64,
     pub revolution: u64,
+}
+
+// The record's epoch as an instant; of a legal record always inside 1957-2056.
+pub fn epoch(r: Record) -> Epoch
+    ensures { λ e. ⌜ e ≡ epochOf (r .year) (r .day) ⌝ }
+{
+    epoch_instant(r.year, r.day)
 }
 
 // The two lines of a set.

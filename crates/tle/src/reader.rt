@@ -19,9 +19,9 @@ use super::Refusal;
 use super::Scaled;
 use super::Verdict;
 use super::limits::angle_in_range;
-use super::limits::day_in_range;
 use super::limits::inclination_in_range;
 use super::limits::motion_in_range;
+use instant::day_in_range;
 
 // Whether byte b may stand in a column of the class; after: the byte before it is a blank.
 fn fits_at(class: u8, after: bool, b: u8) -> bool
@@ -324,7 +324,7 @@ fn read_form(line1: &[u8], line2: &[u8]) -> Form
 fn judge_ranges(r: Record) -> Reading
     ensures { λ answer. ⌜ answer ≡ rangesOf r ⌝ }
 {
-    if !day_in_range(r.day) {
+    if !day_in_range(r.year, r.day) {
         return Reading::Refused(Refusal::Range(Field::Day));
     }
     if !inclination_in_range(r.inclination) {
