@@ -4,3 +4,4 @@ pub mod Legal
 pub mod Refusals
 pub mod Read
 pub mod Least
+pub mod Accepted
