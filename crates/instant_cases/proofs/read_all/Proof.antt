@@ -1,0 +1,15 @@
+use borrow.Author.Needs.{needs}
+use Rattle.instant_cases.proofs.read_all.Statement.{statement}
+use Rattle.instant_cases.proofs.read_all.Tie as tie
+
+abbrev Inv-loop : tie.InvT-loop
+Inv-loop run₀ turns₀ run turns = Unit {0}
+
+abbrev μ-loop : tie.MeasureT-loop
+μ-loop run₀ turns₀ run turns = turns
+
+pub read-all-spec : {M : Type 1} → statement M
+read-all-spec =
+    tie.close
+    (tie.spec
+    Inv-loop μ-loop (λ c. tt) (λ c κs. search needs) (λ c. search needs) (λ c. search needs) (λ c. search needs) (λ c. tt) (λ c. search needs))

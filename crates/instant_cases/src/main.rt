@@ -1,0 +1,353 @@
+// Runs stored cases of instants through the library and prints how many differ. A case is a line: an
+// operation's name and numbers of sixteen hexadecimal digits, arguments first, then the results that
+// tests/instant_cases.py expects.
+ghost use Prim.Native.Nat.{_≤_, _<_};
+use instant::Dated;
+use instant::Epoch;
+use instant::Instant;
+use instant::Microseconds;
+use instant::Moved;
+use libc::STDIN_FILENO;
+use libc::STDOUT_FILENO;
+
+// A line so far: its operation's name, read as a number; how many numbers it has, how many digits the
+// last one has, and the last four of them, d the last; and whether it broke the form.
+struct Line {
+    name: u64,
+    numbers: u64,
+    digits: u64,
+    a: u64,
+    b: u64,
+    c: u64,
+    d: u64,
+    broken: bool,
+}
+
+// How many lines of each operation were compared, how many differ, and the number of the first.
+struct Tallies {
+    lines: u64,
+    compared: [u64; 7],
+    differ: [u64; 7],
+    first: [u64; 7],
+}
+
+struct Run {
+    line: Line,
+    tallies: Tallies,
+}
+
+fn no_line() -> Line {
+    Line {
+        name: 0,
+        numbers: 0,
+        digits: 16,
+        a: 0,
+        b: 0,
+        c: 0,
+        d: 0,
+        broken: false,
+    }
+}
+
+// The value of a hexadecimal digit, 16 for any other byte.
+fn digit(byte: u8) -> u64
+    ensures { λ r. ⌜ r ≤ 16 ⌝ }
+{
+    if b'0' <= byte {
+        if byte <= b'9' {
+            return (byte - b'0') as u64;
+        }
+    }
+    if b'a' <= byte {
+        if byte <= b'f' {
+            return (byte - b'a') as u64 + 10;
+        }
+    }
+    16
+}
+
+// A blank begins a number; the one before it, if any, has to be whole.
+fn next_number(l: Line) -> Line {
+    Line {
+        name: l.name,
+        numbers: std::num::wrapping_add_u64(l.numbers, 1),
+        digits: 0,
+        a: l.b,
+        b: l.c,
+        c: l.d,
+        d: 0,
+        broken: l.broken | (l.digits != 16) | (l.numbers == 4),
+    }
+}
+
+fn name_byte(l: Line, byte: u8) -> Line {
+    let name = l.name;
+    let mut next = 0;
+    let mut broken = true;
+    if name < 72057594037927936 {
+        next = name * 256 + byte as u64;
+        broken = l.broken;
+    }
+    Line {
+        name: next,
+        numbers: 0,
+        digits: 16,
+        a: 0,
+        b: 0,
+        c: 0,
+        d: 0,
+        broken,
+    }
+}
+
+fn digit_byte(l: Line, byte: u8) -> Line {
+    let x = digit(byte);
+    let d = l.d;
+    let mut next = 0;
+    let mut broken = true;
+    if x < 16 {
+        if d < 1152921504606846976 {
+            next = d * 16 + x;
+            broken = l.broken;
+        }
+    }
+    Line {
+        name: l.name,
+        numbers: l.numbers,
+        digits: std::num::wrapping_add_u64(l.digits, 1),
+        a: l.a,
+        b: l.b,
+        c: l.c,
+        d: next,
+        broken,
+    }
+}
+
+fn pushed(l: Line, byte: u8) -> Line {
+    if byte == b' ' {
+        return next_number(l);
+    }
+    if l.numbers == 0 {
+        return name_byte(l, byte);
+    }
+    digit_byte(l, byte)
+}
+
+// A number of two's complement.
+fn signed(x: u64) -> i64 {
+    if x < 9223372036854775808 {
+        return x as i64;
+    }
+    let y = (18446744073709551615 - x) as i64;
+    !y
+}
+
+// Bit for bit; no case expects a NaN.
+fn same(x: f64, bits: u64) -> bool {
+    if x == x {
+        return f64::to_bits(x) == bits;
+    }
+    false
+}
+
+fn epoch_right(year: u64, day: u64, known: u64, instant: u64) -> bool {
+    match instant::epoch_instant(year, day) {
+        Epoch::At(t) => (known == 1) & (instant == t.0),
+        Epoch::Outside => (known == 0) & (instant == 0),
+    }
+}
+
+fn split_right(instant: u64, year: u64, day: u64, micros: u64) -> bool {
+    match instant::date_of(Instant(instant)) {
+        Dated::On(x) => (x.year == year) & (x.day == day) & (x.micros == micros),
+        Dated::Outside => false,
+    }
+}
+
+fn move_right(instant: u64, span: u64, refusal: u64, moved: u64) -> bool {
+    match instant::move_by(Instant(instant), Microseconds(signed(span))) {
+        Moved::To(t) => (refusal == 0) & (moved == t.0),
+        Moved::TooFar => (refusal == 9) & (moved == 0),
+        Moved::Outside => (refusal == 6) & (moved == 0),
+    }
+}
+
+// The place of an operation among those counted, and the last place for a name that is none.
+fn place(name: u64) -> usize
+    ensures { λ r. ⌜ r < 7 ⌝ }
+{
+    match name {
+        // epoch, split, move, minutes, jd, gst
+        0x65706f6368 => 0,
+        0x73706c6974 => 1,
+        0x6d6f7665 => 2,
+        0x6d696e75746573 => 3,
+        0x6a64 => 4,
+        0x677374 => 5,
+        _ => 6,
+    }
+}
+
+// Whether the library gives the results of a whole line.
+fn answer_right(op: usize, l: Line) -> bool {
+    if l.numbers == 4 {
+        if op == 0 {
+            return epoch_right(l.a, l.b, l.c, l.d);
+        }
+        if op == 1 {
+            return split_right(l.a, l.b, l.c, l.d);
+        }
+        if op == 2 {
+            return move_right(l.a, l.b, l.c, l.d);
+        }
+    }
+    if l.numbers == 2 {
+        if op == 3 {
+            return same(instant::to_minutes(Microseconds(signed(l.c))).0, l.d);
+        }
+        if op == 4 {
+            return same(instant::julian_date(Instant(l.c)).0, l.d);
+        }
+        if op == 5 {
+            return same(instant::greenwich(Instant(l.c)).0, l.d);
+        }
+    }
+    false
+}
+
+// A line that breaks the form counts as different.
+fn right(op: usize, l: Line) -> bool {
+    if l.broken | (l.digits != 16) {
+        return false;
+    }
+    answer_right(op, l)
+}
+
+fn tallied(t: Tallies, l: Line) -> Tallies {
+    let op = place(l.name);
+    let lines = std::num::wrapping_add_u64(t.lines, 1);
+    let mut compared = t.compared;
+    let mut differ = t.differ;
+    let mut first = t.first;
+    compared[op] = std::num::wrapping_add_u64(compared[op], 1);
+    if !right(op, l) {
+        if differ[op] == 0 {
+            first[op] = lines;
+        }
+        differ[op] = std::num::wrapping_add_u64(differ[op], 1);
+    }
+    Tallies {
+        lines,
+        compared,
+        differ,
+        first,
+    }
+}
+
+fn fed(r: Run, byte: u8) -> Run {
+    let line = r.line;
+    let tallies = r.tallies;
+    if byte == b'\n' {
+        return Run {
+            line: no_line(),
+            tallies: tallied(tallies, line),
+        };
+    }
+    Run {
+        line: pushed(line, byte),
+        tallies,
+    }
+}
+
+fn feed(r: Run, piece: &[u8]) -> Run {
+    let mut run = r;
+    let mut i = 0;
+    while i < piece.len() {
+        run = fed(run, piece[i]);
+        i += 1;
+    }
+    run
+}
+
+// The state after a read, and whether to go on.
+struct Turn {
+    run: Run,
+    more: bool,
+}
+
+fn read_more(r: Run) -> Turn {
+    let mut buffer = io::buffer();
+    let got = libc::read(STDIN_FILENO, &mut buffer);
+    if got <= 0 {
+        return Turn {
+            run: r,
+            more: false,
+        };
+    }
+    let n = io::count(got, &buffer);
+    let run = feed(r, &buffer[..n]);
+    Turn { run, more: true }
+}
+
+// A proved loop has to end, and nothing says that the input does. So it counts its turns down, from a
+// number that no run uses up.
+fn read_all(r: Run) -> Run {
+    let mut run = r;
+    let mut turns = u64::MAX;
+    while turns > 0 {
+        let t = read_more(run);
+        run = t.run;
+        if !t.more {
+            return run;
+        }
+        turns -= 1;
+    }
+    run
+}
+
+fn print_tally(label: &[u8], compared: u64, differ: u64, first: u64) {
+    io::write_all(STDOUT_FILENO, label);
+    io::print_decimal(STDOUT_FILENO, compared);
+    io::write_all(STDOUT_FILENO, b" compared, ");
+    io::print_decimal(STDOUT_FILENO, differ);
+    io::write_all(STDOUT_FILENO, b" differ");
+    if differ > 0 {
+        io::write_all(STDOUT_FILENO, b", the first in line ");
+        io::print_decimal(STDOUT_FILENO, first);
+    }
+    io::write_all(STDOUT_FILENO, b"\n");
+}
+
+fn print_tallies(t: Tallies) {
+    let n = t.compared;
+    let d = t.differ;
+    let f = t.first;
+    print_tally(b"epoch: ", n[0], d[0], f[0]);
+    print_tally(b"split: ", n[1], d[1], f[1]);
+    print_tally(b"move: ", n[2], d[2], f[2]);
+    print_tally(b"minutes: ", n[3], d[3], f[3]);
+    print_tally(b"jd: ", n[4], d[4], f[4]);
+    print_tally(b"gst: ", n[5], d[5], f[5]);
+    print_tally(b"unreadable: ", n[6], d[6], f[6]);
+}
+
+fn main() {
+    let tallies = Tallies {
+        lines: 0,
+        compared: [0; 7],
+        differ: [0; 7],
+        first: [0; 7],
+    };
+    let run = read_all(Run {
+        line: no_line(),
+        tallies,
+    });
+    let line = run.line;
+    let tallies = run.tallies;
+    // A last line without its newline.
+    if line.name != 0 {
+        print_tallies(tallied(tallies, line));
+        return;
+    }
+    print_tallies(tallies);
+}
