@@ -1,0 +1,64 @@
+use borrow.Author.Needs.{needs}
+use native.Mathlib.Omega.{arith}
+use mathlib.Core.Path.{_≡_, refl, sym, ap, _∙_}
+use mathlib.Core.List.{_++_}
+use Prim.Native.Nat.{_≤_, _-_}
+use denote.Ref.{now}
+use lib.ListN.{length, take, drop, length-set}
+use Rattle.tle_writer.proofs.Front.{turn, finish}
+use Rattle.tle_writer.proofs.put_front.Statement.{statement}
+use Rattle.tle_writer.proofs.put_front.Tie as tie
+
+abbrev Inv-loop : tie.InvT-loop
+Inv-loop out₀ line i₀ out i = (i ≤ 69) × (length line ≡ 69) × (length out ≡ length out₀) × (out ≡ take i line ++ drop i out₀)
+
+abbrev μ-loop : tie.MeasureT-loop
+μ-loop out₀ line i₀ out i = 69 - i
+
+loop-holds : tie.Need-loop-holds Inv-loop μ-loop
+loop-holds c = (search needs, search needs, refl, refl)
+
+array-read-out : tie.Need-array-read-out Inv-loop μ-loop
+array-read-out c = search needs
+
+slice-write-out : tie.Need-slice-write-out Inv-loop μ-loop
+slice-write-out c = search needs
+
+add-i : tie.Need-add-i Inv-loop μ-loop
+add-i c = search needs
+
+loop-less : tie.Need-loop-less Inv-loop μ-loop
+loop-less c = search needs
+
+loop-again : tie.Need-loop-again Inv-loop μ-loop
+loop-again c =
+    let l = c .before .loop in
+    let s = c .before .before in
+    let a = s .args in (
+      search needs,
+      l .inv .1,
+      simp length-set (l .inv .2),
+      rw (l .inv .3) (turn (a .t1) (now (a .out)) (l .i) (omega arith) (omega arith)),
+    )
+
+same-length : tie.Need-same-length Inv-loop μ-loop
+same-length c = c .before .loop .inv .2
+
+returns : tie.Need-returns Inv-loop μ-loop
+returns c = let l = c .before .loop in let a = c .before .before .args in
+    finish (a .t1) (now (a .out)) (l .out) (l .i) (l .inv .1) (omega arith) (l .inv .3)
+
+pub put-front-spec : {M : Type 1} → statement M
+put-front-spec =
+    tie.close
+    (tie.spec
+    Inv-loop
+    μ-loop
+    loop-holds
+    array-read-out
+    slice-write-out
+    add-i
+    loop-less
+    loop-again
+    same-length
+    returns)

@@ -1,0 +1,73 @@
+-- The part is the front of what fill_line wrote, or empty.
+use mathlib.Core.Path.{_≡_, sym, refl, ap, _∙_}
+use denote.Ref.{now, at-last}
+use borrow.Author.Needs.{needs}
+use Rattle.tle_writer.specs.Write.{numberOf, writingOf}
+use Rattle.tle_writer.specs.Lines.{lineOf}
+use Rattle.tle_writer.specs.declared.Writing.the-variants.{Written}
+use Rattle.tle_writer.proofs.Writes.{nothing, zero-written, handed, front, front-long, exactly}
+use Rattle.tle_writer.proofs.write_line.Statement.{statement}
+use Rattle.tle_writer.proofs.write_line.Tie as tie
+
+returns : tie.Need-returns
+returns c =
+    let n = c .before .before in
+    let f = n .before .before .before .fill-line in
+    let a = n .before .before .before .before .before .before .args in
+    let w = writingOf (a .r) (now (a .out)) in
+    let e : n .number .result ≡ numberOf w = n .number .ensures ∙ ap numberOf (f .ensures .0) in (
+      record {
+        bytes = nothing (a .r) (a .which) (now (a .out)) (λ z. c .before .if1 .taken (e ∙ z));
+        begins = refl;
+        whole = λ h. absurd (c .before .if1 .taken (e ∙ ap numberOf h));
+      },
+      e,
+    )
+
+returns-2 : tie.Need-returns-2
+returns-2 c =
+    let n = c .before .before in
+    let f = n .before .before .before .fill-line in
+    let a = n .before .before .before .before .before .before .args in
+    let w = writingOf (a .r) (now (a .out)) in
+    let e : n .number .result ≡ numberOf w = n .number .ensures ∙ ap numberOf (f .ensures .0) in
+    let z : w ≡ Written = zero-written w (sym e ∙ c .before .if1 .left) in
+    let m = exactly (a .r) (a .which) (now (a .out)) _ (f .ensures .1) z (c .if2 .taken) in (
+      record {
+        bytes = m ∙ handed (a .r) (a .which) (now (a .out)) z;
+        begins = refl;
+        whole = λ _ _. ap (at-last (a .out)) m;
+      },
+      e,
+    )
+
+slice-aggregate-result-2 : tie.Need-slice-aggregate-result-2
+slice-aggregate-result-2 c =
+    let n = c .before .before .before in
+    let f = n .before .before .before .fill-line in
+    let a = n .before .before .before .before .before .before .args in
+    let w = writingOf (a .r) (now (a .out)) in
+    let e : n .number .result ≡ numberOf w = n .number .ensures ∙ ap numberOf (f .ensures .0) in
+    let z : w ≡ Written = zero-written w (sym e ∙ c .before .before .if1 .left) in
+    sym (front-long (a .r) (a .which) (now (a .out)) _ (f .ensures .1) z)
+
+returns-3 : tie.Need-returns-3
+returns-3 c =
+    let n = c .before .before .before in
+    let f = n .before .before .before .fill-line in
+    let a = n .before .before .before .before .before .before .args in
+    let w = writingOf (a .r) (now (a .out)) in
+    let e : n .number .result ≡ numberOf w = n .number .ensures ∙ ap numberOf (f .ensures .0) in
+    let z : w ≡ Written = zero-written w (sym e ∙ c .before .before .if1 .left) in (
+      record {
+        bytes = front (a .r) (a .which) (now (a .out)) _ (f .ensures .1) z ∙ handed (a .r) (a .which) (now (a .out)) z;
+        begins = refl;
+        whole = λ _ q. absurd (c .before .if2 .left q);
+      },
+      e,
+    )
+
+pub write-line-spec : {M : Type 1} → statement M
+write-line-spec =
+    tie.close
+    (tie.spec (λ c κs. search needs) (λ c κs. search needs) (λ c. search needs) returns returns-2 slice-aggregate-result-2 returns-3)

@@ -1,0 +1,50 @@
+-- Document 01, "The two lines": the bytes of each line, in the order of its tables.
+use Prim.Native.Nat.{ℕ, _%_}
+use mathlib.Core.List.{List, [], _∷_, _++_}
+use Rattle.tle.specs.Layout.{bytes}
+use Rattle.tle.specs.Number.{sum}
+use Rattle.tle.specs.declared.Record.{Record}
+use Rattle.tle.specs.declared.Line.{Line}
+use Rattle.tle.specs.declared.Line.the-variants.{One, Two}
+use Rattle.tle_writer.specs.Field.{digits, right, pointed, dayPlaces, fraction, scaled, letter, designator}
+
+-- pieces side by side
+unfoldable pub join : List (List ℕ) → List ℕ
+join [] = []
+join (x ∷ xs) = x ++ join xs
+
+-- line 1, columns 1 to 68
+abbrev pub pieces1 : Record → List (List ℕ)
+pieces1 r =
+    bytes "1 " ∷ digits 5 (r .number) ∷ (letter (r .class) ∷ [])
+    ∷ bytes " " ∷ designator (r .designator)
+    ∷ bytes " " ∷ digits 2 (r .year % 100) ∷ dayPlaces (r .day)
+    ∷ bytes " " ∷ fraction (r .ndot)
+    ∷ bytes " " ∷ scaled (r .nddot)
+    ∷ bytes " " ∷ scaled (r .bstar)
+    ∷ bytes " " ∷ digits 1 (r .ephemeris) ∷ bytes " " ∷ right 3 (r .element)
+    ∷ []
+
+-- line 2, columns 1 to 68
+abbrev pub pieces2 : Record → List (List ℕ)
+pieces2 r =
+    bytes "2 " ∷ digits 5 (r .number)
+    ∷ bytes " " ∷ pointed 2 4 (r .inclination)
+    ∷ bytes " " ∷ pointed 2 4 (r .node)
+    ∷ bytes " " ∷ digits 7 (r .eccentricity)
+    ∷ bytes " " ∷ pointed 2 4 (r .perigee)
+    ∷ bytes " " ∷ pointed 2 4 (r .anomaly)
+    ∷ bytes " " ∷ pointed 1 8 (r .motion)
+    ∷ right 4 (r .revolution)
+    ∷ []
+
+unfoldable pub bodyOf : Line → Record → List ℕ
+bodyOf One r = join (pieces1 r)
+bodyOf Two r = join (pieces2 r)
+
+-- columns 1 to 68, and the checksum digit in column 69
+unfoldable pub closedOf : List ℕ → List ℕ
+closedOf body = body ++ digits 1 (sum body % 10)
+
+unfoldable pub lineOf : Line → Record → List ℕ
+lineOf which r = closedOf (bodyOf which r)
