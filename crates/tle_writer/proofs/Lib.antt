@@ -4,3 +4,8 @@ pub mod Overs
 pub mod Bodies
 pub mod Front
 pub mod Writes
+pub mod Facts
+pub mod Values
+pub mod Fields
+pub mod Keeps
+pub mod Round

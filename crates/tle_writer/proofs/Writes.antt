@@ -2,7 +2,7 @@
 use Prim.Native.Nat.{ℕ, _+_, _%_, _<_, _≤_}
 use mathlib.Core.Path.{_≡_, refl, sym, ap, _∙_}
 use mathlib.Core.List.{List, [], _∷_, _++_, append-nil}
-use mathlib.Core.Bool.{Bool, true, false, not}
+use mathlib.Core.Bool.{true, false}
 use native.Mathlib.Omega.{arith}
 use borrow.Author.Tests.{le-leb, lt-leb}
 use lib.ListN.{length, take, drop, drop-of-length-le}
@@ -30,14 +30,6 @@ pub columns : (which : Line) (r : Record) → take 68 (bodyOf which r ++ bytes "
 unfolding bodyOf join lead
 columns One r = rw (places (r .designator))
 columns Two r = refl
-
-pub refused : (b : Bool) → not b ≡ true → b ≡ false
-refused true h = sym h
-refused false h = refl
-
-pub accepted : (b : Bool) → not b ≡ false → b ≡ true
-accepted true h = refl
-accepted false h = sym h
 
 pub illegal : (r : Record) (which : Line) (out : List ℕ) → legal r ≡ false → (Illegal ≡ writingOf r out) × (out ≡ writtenOver r which out)
 unfolding writingOf writtenOver

@@ -1,0 +1,91 @@
+-- What `legal` says of each field.
+use Prim.Native.Nat.{ℕ, _+_, _*_, _<_, _≤_, _^_}
+use mathlib.Core.Path.{_≡_, refl, sym, ap, _∙_}
+use mathlib.Core.Bool.{Bool, true, false, _&&_}
+use mathlib.Core.List.{List, [], _∷_}
+use native.Mathlib.Omega.{arith}
+use borrow.Author.Tests.{ltb-true, leb-true}
+use lib.Dec.{ltb, leb}
+use lib.IntN.{natAbs}
+use Rattle.instant.specs.Calendar.{lastDay, dayInRange}
+use Rattle.tle.specs.Legal.{legal, inLayout, inRanges, designatorFits, scaledFits}
+use Rattle.tle.specs.declared.Record.{Record}
+
+pub record Facts (r : Record) : Type 0 where
+  pub number : r .number < 10 ^ 5
+  pub designator : designatorFits (r .designator) ≡ true
+  pub yearLow : 1957 ≤ r .year
+  pub yearHigh : r .year ≤ 2056
+  pub ndot : natAbs (r .ndot) < 10 ^ 8
+  pub nddot : scaledFits (r .nddot) ≡ true
+  pub bstar : scaledFits (r .bstar) ≡ true
+  pub ephemeris : r .ephemeris < 10 ^ 1
+  pub element : r .element < 10 ^ 4
+  pub eccentricity : r .eccentricity < 10 ^ 7
+  pub motion : r .motion < 10 ^ 10
+  pub revolution : r .revolution < 10 ^ 5
+  pub day : dayInRange (r .year) (r .day) ≡ true
+  pub inclination : r .inclination ≤ 1800000
+  pub node : r .node < 3600000
+  pub perigee : r .perigee < 3600000
+  pub anomaly : r .anomaly < 3600000
+  pub turns : 0 < r .motion
+
+-- a chain of tests: each holds where all do
+abbrev chain : Bool → List Bool → Bool
+chain a [] = a
+chain a (b ∷ bs) = chain (a && b) bs
+
+abbrev Each : List Bool → Type 0
+Each [] = Unit
+Each (b ∷ bs) = (b ≡ true) × Each bs
+
+pub both : (a b : Bool) → a && b ≡ true → (a ≡ true) × (b ≡ true)
+both true b h = (refl, h)
+both false b h = let z : _≡_ {A = ℕ} 0 1 = cc in absurd (omega arith)
+
+each : (a : Bool) (bs : List Bool) → chain a bs ≡ true → (a ≡ true) × Each bs
+each a [] h = (h, tt)
+each a (b ∷ bs) h =
+    let t = each (a && b) bs h in
+    let s = both a b (t .0) in
+    (s .0, (s .1, t .1))
+
+pub facts : (r : Record) → legal r ≡ true → Facts r
+unfolding legal inLayout inRanges
+facts r h =
+    let t = both (inLayout r) (inRanges r) h in
+    let l = each (ltb (r .number) 100000) (designatorFits (r .designator) ∷ leb 1957 (r .year) ∷ leb (r .year) 2056
+    ∷ ltb (natAbs (r .ndot)) 100000000 ∷ scaledFits (r .nddot) ∷ scaledFits (r .bstar) ∷ ltb (r .ephemeris) 10
+    ∷ ltb (r .element) 10000 ∷ ltb (r .eccentricity) 10000000 ∷ ltb (r .motion) 10000000000 ∷ ltb (r .revolution) 100000 ∷ []) (t .0) in
+    let m = l .1 .1 .1 .1 in
+    let n = m .1 .1 .1 in
+    let g = each (dayInRange (r .year) (r .day)) (leb (r .inclination) 1800000 ∷ ltb (r .node) 3600000
+    ∷ ltb (r .perigee) 3600000 ∷ ltb (r .anomaly) 3600000 ∷ ltb 0 (r .motion) ∷ []) (t .1) in
+    record {
+      number = ltb-true _ _ (l .0);
+      designator = l .1 .0;
+      yearLow = leb-true _ _ (l .1 .1 .0);
+      yearHigh = leb-true _ _ (l .1 .1 .1 .0);
+      ndot = ltb-true _ _ (m .0);
+      nddot = m .1 .0;
+      bstar = m .1 .1 .0;
+      ephemeris = ltb-true _ _ (n .0);
+      element = ltb-true _ _ (n .1 .0);
+      eccentricity = ltb-true _ _ (n .1 .1 .0);
+      motion = ltb-true _ _ (n .1 .1 .1 .0);
+      revolution = ltb-true _ _ (n .1 .1 .1 .1 .0);
+      day = g .0;
+      inclination = leb-true _ _ (g .1 .0);
+      node = ltb-true _ _ (g .1 .1 .0);
+      perigee = ltb-true _ _ (g .1 .1 .1 .0);
+      anomaly = ltb-true _ _ (g .1 .1 .1 .1 .0);
+      turns = ltb-true _ _ (g .1 .1 .1 .1 .1 .0);
+    }
+
+-- a day in range has three places before the point
+pub day-below : (year day : ℕ) → dayInRange year day ≡ true → day < 10 ^ 11
+unfolding dayInRange lastDay
+day-below year day h =
+    let t = both (leb 100000000 day) (ltb day ((lastDay year + 1) * 100000000)) h in
+    omega (arith, ltb-true day ((lastDay year + 1) * 100000000) (t .1))
