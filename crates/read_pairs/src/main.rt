@@ -1,0 +1,136 @@
+// Reads pairs of lines, each ended by a newline, from standard input and prints for each pair what
+// reading it answers: `ok`, or `refused`, the number and what comes back with it. Its input and the
+// expected output are made by tests/tle_pairs.py, with a reader of its own.
+use libc::STDIN_FILENO;
+use libc::STDOUT_FILENO;
+use text::input::Line;
+use text::input::Lines;
+use text::output::put_byte;
+use text::output::put_bytes;
+use text::output::put_decimal;
+use tle::Field;
+use tle::Reading;
+use tle::Refusal;
+
+fn put_field(out: &mut [u8], at: usize, field: Field) -> usize {
+    match field {
+        Field::Day => put_bytes(out, at, b" day"),
+        Field::Inclination => put_bytes(out, at, b" inclination"),
+        Field::Node => put_bytes(out, at, b" node"),
+        Field::Perigee => put_bytes(out, at, b" perigee"),
+        Field::Anomaly => put_bytes(out, at, b" anomaly"),
+        Field::Motion => put_bytes(out, at, b" motion"),
+    }
+}
+
+fn put_line_number(out: &mut [u8], at: usize, line: tle::Line) -> usize {
+    match line {
+        tle::Line::One => put_bytes(out, at, b" 1"),
+        tle::Line::Two => put_bytes(out, at, b" 2"),
+    }
+}
+
+fn put_values(out: &mut [u8], at: usize, refusal: Refusal) -> usize {
+    match refusal {
+        Refusal::Length(line) => put_line_number(out, at, line),
+        Refusal::Start(line) => put_line_number(out, at, line),
+        Refusal::Column(line, column) => {
+            let next = put_line_number(out, at, line);
+            let next = put_byte(out, next, b' ');
+            put_decimal(out, next, column as u64)
+        }
+        Refusal::Checksum(line) => put_line_number(out, at, line),
+        Refusal::Numbers => at,
+        Refusal::Range(field) => put_field(out, at, field),
+    }
+}
+
+fn put_refusal(out: &mut [u8], refusal: Refusal) -> usize {
+    let next = put_bytes(out, 0, b"refused ");
+    let next = put_decimal(out, next, refusal.number());
+    put_values(out, next, refusal)
+}
+
+fn put_reading(out: &mut [u8], reading: Reading) -> usize {
+    match reading {
+        Reading::Record(_) => put_bytes(out, 0, b"ok"),
+        Reading::Refused(refusal) => put_refusal(out, refusal),
+    }
+}
+
+fn print(line1: &[u8], line2: &[u8]) {
+    let mut out = [0u8; 64];
+    let next = put_reading(&mut out, tle::read(line1, line2));
+    let size = put_byte(&mut out, next, b'\n');
+    if size <= 64 {
+        io::write_all(STDOUT_FILENO, &out[0..size]);
+    }
+}
+
+// Of a line at most 70 bytes are kept.
+fn print_kept(bytes1: [u8; 70], size1: usize, bytes2: [u8; 70], size2: usize) {
+    if size1 <= 70 {
+        if size2 <= 70 {
+            print(&bytes1[0..size1], &bytes2[0..size2]);
+        }
+    }
+}
+
+fn print_pair(first: Line, second: Line) {
+    let bytes1 = first.bytes;
+    let bytes2 = second.bytes;
+    print_kept(bytes1, first.size, bytes2, second.size);
+}
+
+// Once both lines have ended they are read, and the next pair begins.
+fn read_ended(lines: Lines) -> Lines {
+    if lines.ended < 2 {
+        return lines;
+    }
+    let first = lines.first;
+    let second = lines.second;
+    print_pair(first, second);
+    Lines::start()
+}
+
+fn feed(lines: Lines, piece: &[u8]) -> Lines {
+    let mut lines = lines;
+    let mut i = 0;
+    while i < piece.len() {
+        lines = read_ended(lines.feed(&piece[i..i + 1]));
+        i += 1;
+    }
+    lines
+}
+
+// The state after a read, and whether to go on.
+struct Turn {
+    lines: Lines,
+    more: bool,
+}
+
+fn read_more(lines: Lines) -> Turn {
+    let mut buffer = io::buffer();
+    let got = libc::read(STDIN_FILENO, &mut buffer);
+    if got <= 0 {
+        return Turn { lines, more: false };
+    }
+    let n = io::count(got, &buffer);
+    let lines = feed(lines, &buffer[..n]);
+    Turn { lines, more: true }
+}
+
+// A proved loop has to end, and nothing says that the input does. So it counts its turns down, from
+// a number that no run uses up.
+fn main() {
+    let mut lines = Lines::start();
+    let mut turns = u64::MAX;
+    while turns > 0 {
+        let turn = read_more(lines);
+        lines = turn.lines;
+        if !turn.more {
+            return;
+        }
+        turns -= 1;
+    }
+}
