@@ -1,4 +1,4 @@
--- The record of every pair of lines that reading accepts is legal.
+-- The record of every pair of lines that reading accepts is legal, and the epoch of a legal record is inside 1957-2056.
 use Prim.Native.Nat.{ℕ, zero, suc, _+_, _*_, _<_, _≤_, _^_}
 use mathlib.Core.Path.{_≡_, refl, ap, sym, _∙_}
 use mathlib.Core.List.{List}
@@ -7,12 +7,12 @@ use native.Mathlib.Omega.{arith}
 use borrow.Author.Tests.{lt-ltb, le-leb, leb-true, leb-false}
 use lib.Dec.{eqb, leb, ltb}
 use lib.IntN.{natAbs, pos}
-use Rattle.instant.specs.Calendar.{dayInRange}
+use Rattle.instant.specs.Calendar.{dayInRange, yearInRange, epochOf}
 use Rattle.tle.specs.Layout.{layout1, layout2}
 use Rattle.tle.specs.Number.{field, minus, signed}
-use Rattle.tle.specs.Legal.{inclinationInRange, angleInRange, motionInRange, inRanges, scaledFits, inLayout, legal}
+use Rattle.tle.specs.Legal.{inclinationInRange, angleInRange, motionInRange, inRanges, designatorFits, scaledFits, inLayout, legal}
 use Rattle.tle.specs.Read.{unless, verdictOf, pairOf, numberAt, yearOf, minusAt, ndotAt, scaledAt, motionAt, fieldsOf, formed, formOf, rangesOf, ranged, readOf}
-use Rattle.tle.specs.Accepted.{AcceptedAreLegal}
+use Rattle.tle.specs.Accepted.{AcceptedAreLegal, EpochsInside}
 use Rattle.tle.specs.declared.Record.{Record}
 use Rattle.tle.specs.declared.Line.the-variants.{One}
 use Rattle.tle.specs.declared.Field.the-variants.{Day, Inclination, Node, Perigee, Anomaly, Motion}
@@ -111,3 +111,35 @@ accepted-are-legal line1 line2 r e =
     let f = from-form (pairOf line1 line2) (fieldsOf line1 line2) r e in
     let g = in-ranges (fieldsOf line1 line2) r (f .1) in
     rw (← g .1) (in-layout line1 line2 (f .0) and g .0)
+
+years : (a b c d e f g h i j k l : Bool) → (a && b && c && d && e && f && g && h && i && j && k && l) ≡ true → (c && d) ≡ true
+years true true true true e f g h i j k l q = refl
+years true true true false e f g h i j k l q = q
+years true true false d e f g h i j k l q = q
+years true false c d e f g h i j k l q = let z : _≡_ {A = ℕ} 0 1 = cc in absurd (omega arith)
+years false b c d e f g h i j k l q = let z : _≡_ {A = ℕ} 0 1 = cc in absurd (omega arith)
+
+first-of : (a b c d e f : Bool) → (a && b && c && d && e && f) ≡ true → a ≡ true
+first-of true b c d e f q = refl
+first-of false b c d e f q = q
+
+halves : (a b : Bool) → (a && b) ≡ true → (a ≡ true) × (b ≡ true)
+halves true b q = (refl, q)
+halves false b q = let z : _≡_ {A = ℕ} 0 1 = cc in absurd (omega arith)
+
+year-in : (r : Record) → inLayout r ≡ true → yearInRange (r .year) ≡ true
+unfolding inLayout yearInRange
+year-in r q =
+    years (ltb (r .number) 100000) (designatorFits (r .designator)) (leb 1957 (r .year)) (leb (r .year) 2056)
+    (ltb (natAbs (r .ndot)) 100000000) (scaledFits (r .nddot)) (scaledFits (r .bstar)) (ltb (r .ephemeris) 10) (ltb (r .element) 10000)
+    (ltb (r .eccentricity) 10000000) (ltb (r .motion) 10000000000) (ltb (r .revolution) 100000) q
+
+day-in : (r : Record) → inRanges r ≡ true → dayInRange (r .year) (r .day) ≡ true
+unfolding inRanges
+day-in r q =
+    first-of (dayInRange (r .year) (r .day)) (inclinationInRange (r .inclination)) (angleInRange (r .node)) (angleInRange (r .perigee))
+    (angleInRange (r .anomaly)) (motionInRange (r .motion)) q
+
+pub epochs-inside : EpochsInside
+unfolding legal epochOf
+epochs-inside r q = let h = halves (inLayout r) (inRanges r) q in rw (year-in r (h .0), day-in r (h .1))

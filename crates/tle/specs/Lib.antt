@@ -5,3 +5,4 @@ pub mod Refusals
 pub mod Read
 pub mod Least
 pub mod Accepted
+pub mod Examples

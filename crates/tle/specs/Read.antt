@@ -1,7 +1,7 @@
 -- Document 01, "The two lines" and "Refusal numbers" 1 to 6: what reading two lines gives.
 use Prim.Native.Nat.{ℕ, _+_, _*_, _%_}
 use mathlib.Core.List.{List}
-use mathlib.Core.Bool.{Bool, true, cond, _&&_}
+use mathlib.Core.Bool.{Bool, true, cond}
 use Prim.Native.Char.{code}
 use lib.Dec.{eqb, ltb, leb}
 use lib.IntN.{ℤ, pos}
@@ -19,7 +19,6 @@ use Rattle.tle.specs.declared.Record.{Record}
 use Rattle.tle.specs.declared.Line.{Line}
 use Rattle.tle.specs.declared.Line.the-variants.{One, Two}
 use Rattle.tle.specs.declared.Field.the-variants.{Day, Inclination, Node, Perigee, Anomaly, Motion}
-use Rattle.tle.specs.declared.Refusal.{Refusal}
 use Rattle.tle.specs.declared.Refusal.the-variants.{Length, Start, Column, Checksum, Numbers, Range}
 use Rattle.tle.specs.declared.Verdict.{Verdict}
 use Rattle.tle.specs.declared.Verdict.the-variants as verdict
@@ -60,6 +59,7 @@ pairOf line1 line2 =
     (then (verdictOf Two layout2 line2)
     (unless (eqb (numberAt line1) (numberAt line2)) (verdict.Refused Numbers) verdict.Lawful))
 
+-- U, C or S
 unfoldable pub classOf : ℕ → Class
 classOf b = cond (eqb b (code "U")) Unclassified (cond (eqb b (code "C")) Classified Secret)
 
@@ -125,6 +125,7 @@ abbrev pub formed : Verdict → Record → Form
 formed verdict.Lawful r = form.Fields r
 formed (verdict.Refused why) r = form.Refused why
 
+-- the form of two lines: refusals 1 to 5, or the fields
 unfoldable pub formOf : List ℕ → List ℕ → Form
 formOf line1 line2 = formed (pairOf line1 line2) (fieldsOf line1 line2)
 
@@ -148,5 +149,6 @@ abbrev pub ranged : Form → Reading
 ranged (form.Fields r) = rangesOf r
 ranged (form.Refused why) = reading.Refused why
 
+-- reading: the form, then the ranges
 unfoldable pub readOf : List ℕ → List ℕ → Reading
 readOf line1 line2 = ranged (formOf line1 line2)

@@ -7,7 +7,7 @@ ghost use lib.ListN.{length, getD};
 ghost use Prim.Native.Nat.{_+_, _^_, _%_, _≤_, _<_};
 ghost use Rattle.tle.specs.Layout.{fits, agreed};
 ghost use Rattle.tle.specs.Number.{digitOf, valueOn, field, weightOf, sum, signed};
-ghost use Rattle.tle.specs.Read.{checksumOf, verdictOf, numberAt, pairOf, classOf, designatorAt, yearOf, ndotAt, scaledAt, degreesAt, dayAt, motionAt, fieldsOf, formOf, rangesOf, asReading, readOf};
+ghost use Rattle.tle.specs.Read.{verdictOf, numberAt, pairOf, classOf, designatorAt, yearOf, ndotAt, scaledAt, degreesAt, dayAt, motionAt, fieldsOf, formOf, rangesOf, asReading, readOf};
 use super::Class;
 use super::Designator;
 use super::Field;
@@ -23,7 +23,8 @@ use super::limits::inclination_in_range;
 use super::limits::motion_in_range;
 use instant::day_in_range;
 
-// Whether byte b may stand in a column of the class; after: the byte before it is a blank.
+// Whether byte b may stand in a column of the class (specs/Layout.antt); after: the byte before it is
+// a blank.
 fn fits_at(class: u8, after: bool, b: u8) -> bool
     ensures { λ r. ⌜ r ≡ fits class after b ⌝ }
 {
@@ -146,7 +147,8 @@ fn number_at(line: &[u8]) -> u64
     field_at(line, 2, 5)
 }
 
-// Refusals 1 to 5: line 1, then line 2, then both.
+// Refusals 1 to 5: line 1, then line 2, then both. specs/Layout.antt says what each letter of a
+// layout stands for.
 fn judge_pair(line1: &[u8], line2: &[u8]) -> Verdict
     ensures { λ r. ⌜ r ≡ pairOf (now (line1 .entry)) (now (line2 .entry)) ⌝ }
 {
@@ -218,6 +220,7 @@ fn with_sign(minus: bool, n: u64) -> i64
     n as i64
 }
 
+// Sign, five digits, sign of the exponent, one digit.
 fn scaled_at(line: &[u8], at: usize) -> Scaled
     requires { ⌜ at + 8 ≤ length (now line) ⌝ }
     ensures { λ r. ⌜ r ≡ scaledAt at (now (line .entry)) ⌝ }
@@ -271,41 +274,24 @@ fn fields(line1: &[u8], line2: &[u8]) -> Record
     requires { ⌜ (length (now line1) ≡ 69) × (length (now line2) ≡ 69) ⌝ }
     ensures { λ r. ⌜ r ≡ fieldsOf (now (line1 .entry)) (now (line2 .entry)) ⌝ }
 {
-    let number = number_at(line1);
-    let class = class_at(line1);
-    let designator = designator_at(line1);
-    let year = year_at(line1);
-    let day = day_at(line1);
-    let ndot = ndot_at(line1);
-    let nddot = scaled_at(line1, 44);
-    let bstar = scaled_at(line1, 53);
-    let ephemeris = field_at(line1, 62, 1);
-    let element = field_at(line1, 64, 4);
-    let inclination = degrees_at(line2, 8);
-    let node = degrees_at(line2, 17);
-    let eccentricity = field_at(line2, 26, 7);
-    let perigee = degrees_at(line2, 34);
-    let anomaly = degrees_at(line2, 43);
-    let motion = motion_at(line2);
-    let revolution = field_at(line2, 63, 5);
     Record {
-        number,
-        class,
-        designator,
-        year,
-        day,
-        ndot,
-        nddot,
-        bstar,
-        ephemeris,
-        element,
-        inclination,
-        node,
-        eccentricity,
-        perigee,
-        anomaly,
-        motion,
-        revolution,
+        number: number_at(line1),
+        class: class_at(line1),
+        designator: designator_at(line1),
+        year: year_at(line1),
+        day: day_at(line1),
+        ndot: ndot_at(line1),
+        nddot: scaled_at(line1, 44),
+        bstar: scaled_at(line1, 53),
+        ephemeris: field_at(line1, 62, 1),
+        element: field_at(line1, 64, 4),
+        inclination: degrees_at(line2, 8),
+        node: degrees_at(line2, 17),
+        eccentricity: field_at(line2, 26, 7),
+        perigee: degrees_at(line2, 34),
+        anomaly: degrees_at(line2, 43),
+        motion: motion_at(line2),
+        revolution: field_at(line2, 63, 5),
     }
 }
 
@@ -345,7 +331,7 @@ fn judge_ranges(r: Record) -> Reading
     Reading::Record(r)
 }
 
-// A form as a reading.
+// A form as a reading, its ranges not judged: how a refusal is passed up.
 fn as_reading(form: Form) -> Reading
     ensures { λ r. ⌜ r ≡ asReading form ⌝ }
 {
@@ -355,6 +341,7 @@ fn as_reading(form: Form) -> Reading
     }
 }
 
+// Reads the two lines of a set, of any bytes and any lengths.
 pub fn read(line1: &[u8], line2: &[u8]) -> Reading
     ensures { λ r. ⌜ r ≡ readOf (now (line1 .entry)) (now (line2 .entry)) ⌝ }
 {
