@@ -11,7 +11,7 @@ use Rattle.resonance.specs.declared.place.Side.{Side}
 use Rattle.resonance.specs.declared.place.Side.the-variants.{Forward, Back}
 use Rattle.resonance.specs.declared.place.Place.{Place}
 use Rattle.resonance.proofs.Laws.{begun-le}
-use Rattle.resonance.specs.Place.{number, sameSide, resumes, begun, pick, facing, stride, iter, epochOf, kept, advanced}
+use Rattle.resonance.specs.Place.{number, sameSide, resumes, begun, pick, facing, stride, iter, epochOf, kept, advanced, rise}
 
 -- the position of n strides on the side d from the epoch
 unfoldable pub position : Integrator → Side → ℕ → Place
@@ -130,8 +130,8 @@ advanced-position i d e n m = ap (λ b. kept (iter i (m - number (at b)) (at b))
     by false h = from-epoch i e m
 
 -- what it reports
-pub strides-position : (i : Integrator) (d e : Side) (n m : ℕ) → m - number (begun (epochOf i) (position i d n) e m) ≡ cond (serves d n e m) (m - n) m
-unfolding begun epochOf
+pub strides-position : (i : Integrator) (d e : Side) (n m : ℕ) → rise i (position i d n) e m ≡ cond (serves d n e m) (m - n) m
+unfolding rise begun epochOf
 strides-position i d e n m = ap (λ b. m - number (pick b (facing e (position i d n)) (facing e (epochOf i)))) (resumes-position i d e n m) ∙ by (serves d n e m)
   where
     by : (b : Bool) → m - number (pick b (facing e (position i d n)) (facing e (epochOf i))) ≡ cond b (m - n) m

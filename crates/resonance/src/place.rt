@@ -112,14 +112,9 @@ impl Place {
         ensures { λ r. ⌜ r ≡ P.dotsAt i self ⌝ }
     {
         let atime = self.atime();
+        let xomi = i.argpo + i.argpdot * atime;
         let kind = i.resonance;
-        dots_of(
-            kind,
-            self.xli,
-            self.xni,
-            i.xfact,
-            i.argpo + i.argpdot * atime,
-        )
+        dots_of(kind, self.xli, self.xni, i.xfact, xomi)
     }
 
     // The same position, to be carried on towards `side`.
@@ -209,12 +204,13 @@ impl Place {
     pub fn advance(self, i: Integrator, side: Side, m: Strides) -> Advance
         ensures { λ r. ⌜ r ≡ P.advanceOf i self side (m .0) ⌝ }
     {
+        let goal = m.0;
         let from = self.start(epoch_place(i), side, m);
         let n = from.strides.0;
         let place = from.carried(i, m);
         Advance {
             place,
-            strides: Strides(m.0 - n),
+            strides: Strides(goal - n),
         }
     }
 }

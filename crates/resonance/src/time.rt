@@ -22,7 +22,7 @@ pub fn in_range(t: Microseconds) -> bool
     distance(t) <= 315_532_800_000_000
 }
 
-pub fn is_resonant(kind: Resonance) -> bool
+fn is_resonant(kind: Resonance) -> bool
     ensures { λ r. ⌜ r ≡ T.resonant kind ⌝ }
 {
     match kind {
