@@ -1,13 +1,13 @@
 -- A printed pair is short enough to count, and what its length decides.
 use Prim.Native.Nat.{ℕ, _+_, _<_, _≤_, _/_, _%_, _*_}
-use mathlib.Core.Path.{_≡_, ap}
+use mathlib.Core.Path.{_≡_, ap, subst}
 use mathlib.Core.List.{List, [], _∷_, _++_}
 use mathlib.Core.Bool.{Bool, true, false, cond}
 use native.Mathlib.Omega.{arith}
 use lib.Dec.{eqb, leb}
 use lib.ListN.{length}
 use borrow.Author.Tests.{le-leb, lt-leb}
-use Rattle.text.specs.Output.{Put, most, bytes, decimal, fronted}
+use Rattle.text.specs.Output.{Put, most, bytes}
 use Rattle.text.proofs.Pieces.{measured, has-room, too-short}
 use Rattle.text.proofs.Lengths.{Within, within, decimal-within, signed-within, five-within, line-within}
 use Rattle.tle.specs.Refusals.{numberOf}
@@ -17,8 +17,9 @@ use Rattle.tle.specs.declared.Scaled.{Scaled}
 use Rattle.tle.specs.declared.Record as tle
 use Rattle.tle.specs.declared.Reading.{Reading}
 use Rattle.tle.specs.declared.Reading.the-variants.{Record, Refused}
+use Rattle.listing.specs.declared.Printed.{Printed}
 use Rattle.listing.specs.declared.Printed.the-variants.{Written, RoomTooShort}
-use Rattle.listing.specs.Listing.{classLetter, before, trimmed, designatorText, epochText, scaledText, count, fields1, fields2, recordText, readingText, answer}
+use Rattle.listing.specs.Listing.{classLetter, before, trimmed, designatorText, epochText, scaledText, count, fields1, fields2, recordText, readingText, answer, Prints}
 
 one : (b : ℕ) → Within (b ∷ []) 1
 one b = record { at-most = omega arith }
@@ -94,14 +95,18 @@ reading-short x = omega (arith, reading-within x)
 
 -- a run over any buffer tells the length, and a second over one that has room writes the text
 module _ (text o : List ℕ) (n : ℕ) (e : n ≡ length text) where
-  pub refused : length o < n → (RoomTooShort ≡ answer text (length o)) × (o ≡ fronted text o)
+  pub refused : length o < n → Prints text o o RoomTooShort
   unfolding answer
   refused h =
       let g : leb (length text) (length o) ≡ false = lt-leb (length text) (length o) (omega arith) in
-      (simp g, too-short text o (omega arith))
+      record { answered = simp g; stored = too-short text o (omega arith) }
 
-  pub written : {o′ : List ℕ} {m : ℕ} → n ≤ length o → length text < most → Put o 0 text o′ m → (Written m ≡ answer text (length o)) × (o′ ≡ fronted text o)
+  pub written : {o′ : List ℕ} {m : ℕ} → n ≤ length o → length text < most → Put o 0 text o′ m → Prints text o o′ (Written m)
   unfolding answer
   written h b p =
       let g : leb (length text) (length o) ≡ true = le-leb (length text) (length o) (omega arith) in
-      (simp g (ap Written (measured p b)), has-room p b (omega arith))
+      record { answered = simp g (ap Written (measured p b)); stored = has-room p b (omega arith) }
+
+-- the same text in other words
+pub prints-same : {s t o o′ : List ℕ} {a : Printed} → s ≡ t → Prints s o o′ a → Prints t o o′ a
+prints-same {s} {t} {o} {o′} {a} e p = subst (λ (x : List ℕ). Prints x o o′ a) e p

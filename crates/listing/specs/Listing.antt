@@ -1,11 +1,15 @@
 -- Document 01, "One pair, printed": the sixteen lines of a record, or `refused` and the number. For any record, an illegal one too.
 use Prim.Native.Nat.{ℕ, _*_, _/_, _%_}
 use Prim.Native.Char.{code}
+use mathlib.Core.Path.{_≡_}
 use mathlib.Core.List.{List, [], _∷_, _++_}
 use mathlib.Core.Bool.{cond}
 use lib.Dec.{eqb, leb}
 use lib.ListN.{length}
-use Rattle.text.specs.Output.{bytes, decimal, signed, places, line}
+use Rattle.text.specs.Output.{bytes, decimal, signed, places, line, fronted}
+use Rattle.text.specs.Input.{line1, line2, held}
+use Rattle.text.specs.declared.input.Lines.{Lines}
+use Rattle.tle.specs.Read.{readOf}
 use Rattle.tle.specs.Refusals.{numberOf}
 use Rattle.tle.specs.declared.Class.{Class}
 use Rattle.tle.specs.declared.Class.the-variants.{Unclassified, Classified, Secret}
@@ -86,6 +90,14 @@ unfoldable pub readingText : Reading → List ℕ
 readingText (Record r) = recordText r
 readingText (Refused why) = count (bytes "refused ") (numberOf why)
 
+-- what is printed of the two lines that have been fed
+unfoldable pub linesText : Lines → List ℕ
+linesText s = readingText (readOf (held (s .first)) (held (s .second)))
+
+-- what is printed of an input: its two lines are read
+unfoldable pub pairText : List ℕ → List ℕ
+pairText input = readingText (readOf (line1 input) (line2 input))
+
 -- how many bytes a text is, where the lent room holds them all; else refusal 17
 unfoldable pub answer : List ℕ → ℕ → Printed
 answer text room = cond (leb (length text) room) (Written (length text)) RoomTooShort
@@ -94,3 +106,8 @@ answer text room = cond (leb (length text) room) (Written (length text)) RoomToo
 abbrev pub refusalNumber : Printed → ℕ
 refusalNumber (Written n) = 0
 refusalNumber RoomTooShort = 17
+
+-- What printing a text into a buffer gives and leaves there: the text at the front and the rest as it was, or all as it was.
+pub record Prints (text out after : List ℕ) (a : Printed) : Type 0 where
+  pub answered : a ≡ answer text (length out)
+  pub stored : after ≡ fronted text out

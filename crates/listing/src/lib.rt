@@ -2,16 +2,18 @@
 // and the number, into a lent buffer.
 ghost use mathlib.Core.Path.{_≡_};
 ghost use mathlib.Core.List.{[], _∷_, _++_};
-ghost use Prim.Native.Nat.{_≤_};
-ghost use lib.ListN.{length, take};
-ghost use Rattle.text.specs.Output.{Put, line, decimal, signed, fronted};
-ghost use Rattle.listing.specs.Listing.{classLetter, trimmed, designatorText, epochText, scaledText, fields1, fields2, recordText, readingText, answer};
-use text::output::put_byte;
-use text::output::put_bytes;
-use text::output::put_decimal;
-use text::output::put_five_digits;
-use text::output::put_line;
-use text::output::put_signed;
+ghost use Prim.Native.Nat.{_≤_, min};
+ghost use lib.ListN.{take};
+ghost use Rattle.text.specs.Output.{Put, line, decimal, signed};
+ghost use Rattle.listing.specs.Listing.{classLetter, trimmed, designatorText, epochText, scaledText, fields1, fields2, recordText, readingText, linesText, pairText, Prints};
+ghost use Rattle.tle.specs.Read.{readOf};
+use text::Lines;
+use text::put_byte;
+use text::put_bytes;
+use text::put_decimal;
+use text::put_five_digits;
+use text::put_line;
+use text::put_signed;
 use tle::Class;
 use tle::Designator;
 use tle::Reading;
@@ -172,7 +174,7 @@ pub enum Printed {
 // The text at the front of the buffer; nothing where it does not fit. The first run, over a buffer of
 // one byte, measures the text.
 pub fn print_reading(reading: Reading, out: &mut [u8]) -> Printed
-    ensures { λ a. ⌜ (a ≡ answer (readingText reading) (length (now (out .entry)))) × (now (out .exit) ≡ fronted (readingText reading) (now (out .entry))) ⌝ }
+    ensures { λ a. ⌜ Prints (readingText reading) (now (out .entry)) (now (out .exit)) a ⌝ }
 {
     let mut measure = [0u8; 1];
     let size = put_reading(&mut measure, 0, reading);
@@ -181,4 +183,55 @@ pub fn print_reading(reading: Reading, out: &mut [u8]) -> Printed
     }
     let n = put_reading(out, 0, reading);
     Printed::Written(n)
+}
+
+// What reading two lines gives, printed.
+pub fn print_pair(line1: &[u8], line2: &[u8], out: &mut [u8]) -> Printed
+    ensures { λ a. ⌜ Prints (readingText (readOf (now (line1 .entry)) (now (line2 .entry)))) (now (out .entry)) (now (out .exit)) a ⌝ }
+{
+    let reading = tle::read(line1, line2);
+    print_reading(reading, out)
+}
+
+fn kept_size(size: usize) -> usize
+    ensures { λ r. ⌜ r ≡ min size 70 ⌝ }
+{
+    if size < 70 {
+        return size;
+    }
+    70
+}
+
+fn print_held(
+    line1: [u8; 70],
+    size1: usize,
+    line2: [u8; 70],
+    size2: usize,
+    out: &mut [u8],
+) -> Printed
+    ensures { λ a. ⌜ Prints (readingText (readOf (take size1 line1) (take size2 line2))) (now (out .entry)) (now (out .exit)) a ⌝ }
+{
+    let n1 = kept_size(size1);
+    let n2 = kept_size(size2);
+    print_pair(&line1[0..n1], &line2[0..n2], out)
+}
+
+// The pair in the two lines that have been fed, printed.
+pub fn print_lines(lines: Lines, out: &mut [u8]) -> Printed
+    ensures { λ a. ⌜ Prints (linesText lines) (now (out .entry)) (now (out .exit)) a ⌝ }
+{
+    let first = lines.first;
+    let second = lines.second;
+    let line1 = first.bytes;
+    let line2 = second.bytes;
+    print_held(line1, first.size, line2, second.size, out)
+}
+
+// The pair in a whole input, printed.
+pub fn print_input(input: &[u8], out: &mut [u8]) -> Printed
+    ensures { λ a. ⌜ Prints (pairText (now (input .entry))) (now (out .entry)) (now (out .exit)) a ⌝ }
+{
+    let lines = Lines::start();
+    let lines = lines.feed(input);
+    print_lines(lines, out)
 }

@@ -36,17 +36,13 @@ impl Lines {
     pub fn start() -> Lines
         ensures { λ r. ⌜ r ≡ started ⌝ }
     {
-        let first = Line {
-            bytes: [0; 70],
-            size: 0,
-        };
-        let second = Line {
+        let empty = Line {
             bytes: [0; 70],
             size: 0,
         };
         Lines {
-            first,
-            second,
+            first: empty,
+            second: empty,
             ended: 0,
         }
     }
