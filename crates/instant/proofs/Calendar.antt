@@ -2,11 +2,10 @@
 use mathlib.Core.Path.{_≡_, refl, sym, ap, _∙_, subst}
 use mathlib.Core.Bool.{Bool, true, false, cond, _&&_, false≢true}
 use Prim.Native.Nat.{ℕ, zero, suc, _+_, _-_, _*_, _/_, _%_, _≤_, _<_}
-use native.Mathlib.Numerals.{add-one}
 use native.Mathlib.Omega.{arith}
-use lib.Dec.{T, leb, ltb, eqb, leb→le, ltb→lt}
-use borrow.Author.Tests.{ltb-true, ltb-false, leb-true, eqb-true, eqb-false, lt-ltb, le-ltb}
-use Rattle.instant.specs.Calendar.{daysIn, daysBefore, calendarEnd, inCalendar, lastDay, dayInRange, yearInRange, together, epochMicros, yearsSince, dayMicros, unitMicros}
+use lib.Dec.{leb, ltb, eqb}
+use borrow.Author.Tests.{ltb-true, leb-true, eqb-true, eqb-false, lt-ltb, le-ltb}
+use Rattle.instant.specs.Calendar.{daysIn, daysBefore, calendarEnd, inCalendar, lastDay, dayInRange, yearInRange, yearsSince}
 
 -- The calendar ends at 3,155,760,000,000,000.
 pub calendar-end : calendarEnd ≡ 3155760000000000

@@ -1,12 +1,12 @@
 -- The exponent fields, by the distance of each part from 0. Assumes nothing.
 use mathlib.Core.Path.{_≡_, refl, sym, ap, _∙_}
-use mathlib.Core.Bool.{Bool, true, false}
-use Prim.Native.Nat.{ℕ, zero, suc, _+_, _-_, _*_, _^_, _≤_, _<_}
+use mathlib.Core.Bool.{true, false}
+use Prim.Native.Nat.{ℕ, suc, _+_, _-_, _*_, _^_, _≤_, _<_}
 use native.Mathlib.Nat.{mul-one, pow-le-pow-right, zero-lt-suc, mul-le-mul}
 use native.Mathlib.Omega.{arith}
 use borrow.Author.Tests.{le-leb}
 use lib.IntN.{ℤ, pos, negsuc, natAbs}
-use lib.Ieee.{Float, binary64, neg, round}
+use lib.Ieee.{binary64, neg, round}
 use Rattle.instant.specs.Quantity.{over, poweredOf, scaledOf}
 use Rattle.instant.proofs.Signed.{back}
 use Rattle.instant.proofs.Long.{neg-round}

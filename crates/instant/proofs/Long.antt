@@ -3,12 +3,12 @@ use mathlib.Core.Path.{_≡_, refl, sym, ap, _∙_, subst}
 use mathlib.Core.Logic.{_⊎_, inl, inr}
 use mathlib.Core.Bool.{Bool, true, false, not, cond}
 use Prim.Native.Nat.{ℕ, zero, suc, _+_, _-_, _*_, _/_, _%_, _^_, _≤_, _<_, compare, Ordering, Ordering·lt, Ordering·eq, Ordering·gt}
-use native.Mathlib.Nat.{le-trans, le-of-eq, lt-of-lt-of-le, lt-of-le-of-lt, lt-of-not-le, not-le-of-lt, eq-or-lt-of-le, mul-one, one-mul, mul-comm, mul-assoc, mul-left-comm, mul-right-comm, mul-pos, mul-le-mul-right, mul-lt-mul-of-pos-right, eq-of-mul-eq-mul-right, le-div-iff-mul-le, div-lt-iff-lt-mul, mul-add-div-right, mul-add-mod-self-right, mod-eq-of-lt, mod-lt, div-add-mod', div-eq-of-lt, add-mul, pow-suc}
+use native.Mathlib.Nat.{le-trans, le-of-eq, lt-of-lt-of-le, lt-of-le-of-lt, lt-of-not-le, not-le-of-lt, eq-or-lt-of-le, mul-one, one-mul, mul-comm, mul-assoc, mul-right-comm, mul-pos, mul-le-mul-right, mul-lt-mul-of-pos-right, eq-of-mul-eq-mul-right, le-div-iff-mul-le, div-lt-iff-lt-mul, mul-add-div-right, mul-add-mod-self-right, mod-eq-of-lt, mod-lt, div-add-mod', div-eq-of-lt, add-mul, pow-suc}
 use native.Mathlib.Numerals.{add-one}
 use native.Mathlib.Omega.{arith}
 use lib.Dec.{T, isLe, isEq, eqb, ltb, leb→le, nleb→lt, eqb→eq, eqb-refl, lit<}
 use lib.Pow.{pow-add, pow-pos, pow-mono, pow-lt}
-use lib.Ieee.{Float, nan, inf, fin, Format, binary64, prec, emax, low, hid, top, up, down, size, nearest, odd, units, round, neg, fits, toBits, ofBits}
+use lib.Ieee.{Float, inf, fin, Format, binary64, prec, low, hid, top, up, down, size, nearest, odd, units, round, neg, fits, toBits, ofBits}
 use lib.Ieee.Digits.{size-lt, size-le}
 use lib.Ieee.Fits.{down-pos, round-is, round-fits, nearest-le}
 use lib.Ieee.Bits.{ofBits-toBits}

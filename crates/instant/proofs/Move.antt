@@ -1,15 +1,11 @@
 -- Where a move leads, by the span's sign and its distance. Assumes nothing.
-use mathlib.Core.Path.{_≡_, refl, sym, ap, _∙_}
-use mathlib.Core.Bool.{Bool, true, false, cond}
-use Prim.Native.Nat.{ℕ, zero, suc, _+_, _-_, _≤_, _<_}
-use native.Mathlib.Omega.{arith}
+use mathlib.Core.Path.{_≡_, sym, _∙_}
+use mathlib.Core.Bool.{true, false}
+use Prim.Native.Nat.{ℕ, suc, _+_, _-_, _≤_, _<_}
 use lib.IntN.{ℤ, pos, negsuc, natAbs}
-use lib.Dec.{leb}
 use borrow.Author.Tests.{le-leb, lt-leb}
-use Rattle.instant.specs.Calendar.{inCalendar}
 use Rattle.instant.specs.Move.{inSpan, spanLimit, landed, reached, moveOf}
-use Rattle.instant.specs.declared.Moved.{Moved}
-use Rattle.instant.specs.declared.Moved.the-variants.{To, TooFar, Outside}
+use Rattle.instant.specs.declared.Moved.the-variants.{TooFar, Outside}
 use Rattle.instant.proofs.Signed.{back}
 use Rattle.instant.proofs.Calendar.{inside, outside}
 

@@ -1,14 +1,14 @@
 -- An i64's distance from 0, and its side, as the machine computes them.
-use mathlib.Core.Path.{_≡_, refl, sym, ap, _∙_, subst}
+use mathlib.Core.Path.{_≡_, refl, sym, ap, _∙_}
 use mathlib.Core.Bool.{Bool, true, false}
-use Prim.Native.Nat.{ℕ, suc, zero, _+_, _-_, _<_, _≤_, _^_}
+use Prim.Native.Nat.{ℕ, suc, _-_, _<_, _≤_, _^_}
 use native.Mathlib.Omega.{arith}
-use lib.Dec.{T, ltb, le→leb, lt→ltb}
+use lib.Dec.{T, le→leb, lt→ltb}
 use lib.Ieee.{binary64, inFloat}
 use lib.IntN.{ℤ, pos, negsuc, natAbs}
-use lib.Signed.{ltZ, nonNeg, mag}
+use lib.Signed.{ltZ, nonNeg}
 use mir.Syntax.{w64}
-use mir.Val.{SFits, Fits, ofZ, toZ}
+use mir.Val.{SFits, ofZ, toZ}
 use mir.ValLaws.{toZ-ofZ, toZ-pos}
 use borrow.Author.Tests.{le-ltb}
 

@@ -1,12 +1,9 @@
 -- The theorems of the calendar, over its definitions. Assumes nothing.
 use mathlib.Core.Path.{_≡_, refl, sym, ap, _∙_, subst}
-use mathlib.Core.Bool.{Bool, true, false, cond, _&&_}
-use Prim.Native.Nat.{ℕ, zero, suc, _+_, _-_, _*_, _/_, _%_, _≤_, _<_}
-use native.Mathlib.Nat.{div-add-mod'}
+use mathlib.Core.Bool.{Bool, true, cond}
+use Prim.Native.Nat.{ℕ, suc, _+_, _-_, _*_, _/_, _%_, _≤_, _<_}
 use native.Mathlib.Omega.{arith}
-use lib.Dec.{leb, ltb}
-use borrow.Author.Tests.{ltb-true, leb-true, le-leb}
-use Rattle.instant.specs.Calendar.{dayMicros, unitMicros, daysIn, daysBefore, calendarEnd, inCalendar, yearInRange, dayInRange, together, epochMicros, epochOf, yearsSince, dateOf}
+use Rattle.instant.specs.Calendar.{dayMicros, unitMicros, daysIn, daysBefore, calendarEnd, yearInRange, dayInRange, together, epochMicros, epochOf, yearsSince, dateOf}
 use Rattle.instant.specs.declared.Dated.{Dated}
 use Rattle.instant.specs.declared.Dated.the-variants as dated
 use Rattle.instant.specs.declared.Epoch.the-variants as epoch
@@ -72,9 +69,6 @@ epoch-inside year day y h =
     (simp (y, h), subst (λ (z : ℕ). epochMicros year day < z) (sym calendar-end) (omega arith))
 
 -- ---- only one date is that instant
-earlier : (a b : ℕ) → a ≤ b → daysBefore a ≤ daysBefore b
-earlier a b h = let x = days-before a in let y = days-before b in omega arith
-
 -- the year of a day is the one that has begun and is not over
 pub one-year : (d k : ℕ) → daysBefore k ≤ d → d < daysBefore (suc k) → k ≡ yearsSince d
 one-year d k lo hi =

@@ -1,6 +1,6 @@
 -- Instants and their calendar, document 01, "Instants". Definitions only.
 use Prim.Native.Nat.{ℕ, zero, suc, _+_, _-_, _*_, _/_, _%_}
-use mathlib.Core.Bool.{Bool, true, false, cond, _&&_}
+use mathlib.Core.Bool.{Bool, cond, _&&_}
 use lib.Dec.{leb, ltb, eqb}
 use Rattle.instant.specs.declared.Epoch.{Epoch}
 use Rattle.instant.specs.declared.Epoch.the-variants as epoch

@@ -1,8 +1,8 @@
 -- Moving an instant, document 01, "Instants" and refusals 9 and 6. Definitions only.
 use Prim.Native.Nat.{ℕ, suc, _+_, _-_, _*_}
-use mathlib.Core.Bool.{Bool, true, false, cond, _&&_}
+use mathlib.Core.Bool.{Bool, cond}
 use lib.IntN.{ℤ, pos, negsuc, natAbs}
-use lib.Dec.{leb, ltb}
+use lib.Dec.{leb}
 use Rattle.instant.specs.Calendar.{dayMicros, inCalendar}
 use Rattle.instant.specs.declared.Moved.{Moved}
 use Rattle.instant.specs.declared.Moved.the-variants.{To, TooFar, Outside}

@@ -1,8 +1,8 @@
 -- Quantities converted, document 01, "Numbers the model rests on". Definitions only.
 use Prim.Native.Nat.{ℕ, suc, _+_, _-_, _*_, _^_}
-use mathlib.Core.Bool.{Bool, true, false, cond, _&&_}
+use mathlib.Core.Bool.{true, false, cond, _&&_}
 use lib.IntN.{ℤ, pos, negsuc, natAbs}
-use lib.Dec.{leb, ltb}
+use lib.Dec.{leb}
 use lib.Ieee.{Float, nan, binary64, round}
 use Rattle.elementary.specs.Notation.{_⊗_, _⊘_, dec, pi}
 

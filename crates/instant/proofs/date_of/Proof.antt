@@ -1,5 +1,3 @@
-use mathlib.Core.Path.{_≡_, ap, _∙_}
-use native.Mathlib.Omega.{arith}
 use borrow.Author.Needs.{needs}
 use Rattle.instant.specs.Calendar.{dateOf, yearsSince}
 use Rattle.instant.proofs.Calendar.{inside, outside, year-begun}

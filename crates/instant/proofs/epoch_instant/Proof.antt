@@ -1,6 +1,5 @@
-use mathlib.Core.Path.{_≡_, sym, _∙_}
-use mathlib.Core.Bool.{true}
-use Prim.Native.Nat.{_+_, _*_, _-_, _/_, _≤_, _<_}
+use mathlib.Core.Path.{sym, _∙_}
+use Prim.Native.Nat.{_-_, _≤_, _<_}
 use native.Mathlib.Omega.{arith}
 use borrow.Author.Needs.{needs}
 use borrow.Author.Tests.{lt-leb, le-leb}
@@ -24,18 +23,6 @@ returns-2 : tie.Need-returns-2
 unfolding epochOf yearInRange
 returns-2 c = simp (le-leb _ _ (c .before .if1 .left), lt-leb _ _ (c .if2 .taken))
 
-mul-before : tie.Need-mul-before
-mul-before c = omega (arith, before c)
-
-sub-t7 : tie.Need-sub-t7
-sub-t7 c = omega (arith, day c)
-
-mul-t8 : tie.Need-mul-t8
-mul-t8 c = omega (arith, day c)
-
-add-t9 : tie.Need-add-t9
-add-t9 c = omega (arith, day c, before c)
-
 returns-3 : tie.Need-returns-3
 unfolding epochOf yearInRange epochMicros
 returns-3 c =
@@ -48,4 +35,4 @@ returns-4 c =
 
 pub epoch-instant-spec : {M : Type 1} → statement M
 epoch-instant-spec =
-    tie.close (tie.spec returns returns-2 (λ c κs. search needs) (λ c κs. search needs) mul-before sub-t7 mul-t8 add-t9 returns-3 returns-4)
+    tie.close (tie.spec returns returns-2 (λ c κs. search needs) (λ c κs. search needs) (λ c. omega (arith, before c)) (λ c. omega (arith, day c)) (λ c. omega (arith, day c)) (λ c. omega (arith, day c, before c)) returns-3 returns-4)

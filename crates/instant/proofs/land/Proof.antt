@@ -1,9 +1,3 @@
-use mathlib.Core.Path.{_≡_, ap, _∙_}
-use mathlib.Core.Bool.{true, false}
-use Prim.Native.Nat.{ℕ}
-use lib.Dec.{ltb}
-use borrow.Author.Tests.{lt-ltb, le-ltb}
-use Rattle.instant.specs.Calendar.{inCalendar}
 use Rattle.instant.specs.Move.{landed}
 use Rattle.instant.proofs.Calendar.{inside, outside}
 use Rattle.instant.proofs.land.Statement.{statement}

@@ -1,11 +1,8 @@
-use mathlib.Core.Path.{_≡_, refl, sym, ap, _∙_}
+use mathlib.Core.Path.{_≡_, sym, _∙_}
 use mathlib.Core.Bool.{true, false}
-use Prim.Native.Nat.{_+_, _<_, _^_}
 use native.Mathlib.Omega.{arith}
-use lib.IntN.{natAbs}
 use mir.Syntax.{w64}
 use mir.ValLaws.{toZ-ofZ}
-use borrow.Author.Needs.{needs}
 use Rattle.instant.proofs.Signed.{back, negative, flipped, positive, small, some}
 use Rattle.instant.proofs.magnitude.Statement.{statement}
 use Rattle.instant.proofs.magnitude.Tie as tie

@@ -1,5 +1,5 @@
 use mathlib.Core.Path.{_≡_, refl, sym, ap, _∙_}
-use Prim.Native.Nat.{ℕ, suc, _+_, _-_, _*_, _^_, _≤_}
+use Prim.Native.Nat.{ℕ, _-_, _*_, _^_, _≤_}
 use native.Mathlib.Nat.{pow-suc, pow-le-pow-right, zero-lt-suc}
 use native.Mathlib.Numerals.{add-one}
 use native.Mathlib.Omega.{arith}
@@ -12,14 +12,8 @@ Inv-loop k p₀ i₀ p i = (i ≤ k) × (p ≡ 10 ^ i) × (1 ≤ p)
 abbrev μ-loop : tie.MeasureT-loop
 μ-loop k p₀ i₀ p i = k - i
 
-loop-holds : tie.Need-loop-holds Inv-loop μ-loop
-loop-holds c = (omega arith, refl, omega arith)
-
 small : (i : ℕ) → i ≤ 15 → 10 ^ i ≤ 1000000000000000
 small i h = pow-le-pow-right {n = 10} (zero-lt-suc 9) {i = i} {j = 15} h
-
-mul-p : tie.Need-mul-p Inv-loop μ-loop
-mul-p c = omega (arith, small (c .before .loop .i) (omega arith))
 
 loop-again : tie.Need-loop-again Inv-loop μ-loop
 loop-again c =
@@ -32,4 +26,4 @@ returns c =
     (p, (omega arith, omega (arith, small (c .before .before .args .k) (omega arith))))
 
 pub power-of-ten-spec : {M : Type 1} → statement M
-power-of-ten-spec = tie.close (tie.spec Inv-loop μ-loop loop-holds mul-p (λ c. omega arith) (λ c. omega arith) loop-again returns)
+power-of-ten-spec = tie.close (tie.spec Inv-loop μ-loop (λ c. (omega arith, refl, omega arith)) (λ c. omega (arith, small (c .before .loop .i) (omega arith))) (λ c. omega arith) (λ c. omega arith) loop-again returns)

@@ -22,12 +22,6 @@ neg c = sym (negative _ (c .before .before .fits .exponent)) ∙ c .if1 .taken
 non : (c : tie.Else1) → back (c .before .before .args .exponent) ≡ false
 non c = sym (negative _ (c .before .before .fits .exponent)) ∙ c .if1 .left
 
-add-power-of-ten : tie.Need-add-power-of-ten
-add-power-of-ten c = omega (arith, size (c .before))
-
-power-of-ten-requires : tie.Need-power-of-ten-requires
-power-of-ten-requires c κs = omega (arith, size (c .before))
-
 returns : tie.Need-returns
 returns c =
     let a = c .before .before .before .before .args in
@@ -42,9 +36,6 @@ returns-2 c =
     c .quotient2 .ensures
     ∙ ap (λ (d : ℕ). round binary64 false (a .m) d) (c .before .power-of-ten2 .ensures .0 ∙ ap (λ (x : ℕ). 10 ^ (5 - x)) e)
     ∙ within (a .m) (a .exponent) (non (c .before .before .before)) (omega arith)
-
-power-of-ten-requires-3 : tie.Need-power-of-ten-requires-3
-power-of-ten-requires-3 c κs = omega (arith, size (c .before .before))
 
 mul-quotient : tie.Need-mul-quotient
 mul-quotient c =
@@ -63,16 +54,6 @@ pub powered-spec : {M : Type 1} → statement M
 powered-spec =
     tie.close
     (tie.spec
-    (λ c κs. search needs)
-    add-power-of-ten
-    power-of-ten-requires
-    (λ c κs. search needs)
-    returns
-    (λ c κs. search needs)
-    (λ c κs. search needs)
-    returns-2
-    (λ c. search needs)
-    power-of-ten-requires-3
-    mul-quotient
-    (λ c κs. search needs)
-    returns-3)
+    (λ c κs. search needs) (λ c. omega (arith, size (c .before))) (λ c κs. omega (arith, size (c .before))) (λ c κs. search needs) returns
+    (λ c κs. search needs) (λ c κs. search needs) returns-2
+    (λ c. search needs) (λ c κs. omega (arith, size (c .before .before))) mul-quotient (λ c κs. search needs) returns-3)

@@ -1,17 +1,16 @@
-use mathlib.Core.Path.{_≡_, sym, ap, _∙_}
-use mathlib.Core.Bool.{true, false}
-use Prim.Native.Nat.{ℕ, _*_, _≤_}
-use native.Mathlib.Nat.{mul-one}
+use mathlib.Core.Path.{sym, ap, _∙_}
+use mathlib.Core.Bool.{false}
+use Prim.Native.Nat.{ℕ}
 use native.Mathlib.Omega.{arith}
-use lib.IntN.{ℤ, natAbs}
-use lib.Ieee.{Float, binary64, neg, div, ofInt, round, units, odd, size, span, climb, ofBits}
+use lib.IntN.{ℤ}
+use lib.Ieee.{binary64, neg, div, ofInt, round, units, odd, size, span, climb, ofBits}
 use lib.Count.{trailingZeros}
 use mir.Syntax.{w64}
 use mir.Val.{SFits}
 use mir.ValLaws.{toZ-ofZ}
 use borrow.Author.Needs.{needs}
 use Rattle.instant.specs.Quantity.{minutesOf}
-use Rattle.instant.proofs.Signed.{back, negative, exact}
+use Rattle.instant.proofs.Signed.{negative, exact}
 use Rattle.instant.proofs.Once.{once-signed, over-negative, over-positive}
 use Rattle.instant.proofs.to_minutes.Statement.{statement}
 use Rattle.instant.proofs.to_minutes.Tie as tie
