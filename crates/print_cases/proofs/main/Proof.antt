@@ -1,0 +1,18 @@
+use Prim.{Unit}
+use borrow.Author.Needs.{needs}
+use Rattle.print_cases.proofs.main.Statement.{statement}
+use Rattle.print_cases.proofs.main.Tie as tie
+
+abbrev Inv-loop : tie.InvT-loop
+Inv-loop case₀ turns₀ case turns = Unit
+
+abbrev μ-loop : tie.MeasureT-loop
+μ-loop case₀ turns₀ case turns = turns
+
+pub main-spec : {M : Type 1} → statement M
+main-spec =
+    tie.close
+    (tie.spec
+    Inv-loop μ-loop (λ c κs. search needs) (λ c. search needs) (λ c κs. search needs) (λ c. search needs) (λ c κs. search needs)
+    (λ c. search needs) (λ c. search needs) (λ c κs. search needs) (λ c. search needs) (λ c. search needs) (λ c κs. search needs)
+    (λ c. search needs) (λ c. search needs) (λ c. search needs) (λ c. search needs))
