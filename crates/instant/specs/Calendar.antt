@@ -14,7 +14,7 @@ dayMicros = 86400000000
 abbrev pub unitMicros : ℕ
 unitMicros = 864
 
--- the days of a year. No year of 1957-2056 is a century's that 400 does not divide
+-- The days of a year. The one century year of 1957-2056 is 2000, which 400 divides, so 4 alone decides
 unfoldable pub daysIn : ℕ → ℕ
 daysIn year = cond (eqb (year % 4) 0) 366 365
 
@@ -53,7 +53,7 @@ epochMicros year day = daysBefore (year - 1957) * dayMicros + (day - 100000000) 
 unfoldable pub epochOf : ℕ → ℕ → Epoch
 epochOf year day = cond (yearInRange year && dayInRange year day) (epoch.At (record { 0 = epochMicros year day })) epoch.Outside
 
--- years since 1957 of the day with that many days before it: `Calendar` of proofs/ shows that the day is in that year
+-- The years before the year of a day, from 1957, by the days before that day. `one-year` of proofs/Theorems.antt says that no other year has it
 unfoldable pub yearsSince : ℕ → ℕ
 yearsSince days = (4 * days + 3) / 1461
 

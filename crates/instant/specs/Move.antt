@@ -1,4 +1,5 @@
 -- Moving an instant, document 01, "Instants" and refusals 9 and 6. Definitions only.
+use mathlib.Core.List.{List, [], _∷_}
 use Prim.Native.Nat.{ℕ, suc, _+_, _-_, _*_}
 use mathlib.Core.Bool.{Bool, cond}
 use lib.IntN.{ℤ, pos, negsuc, natAbs}
@@ -31,3 +32,9 @@ unfoldable pub refusal : Moved → ℕ
 refusal (To t) = 0
 refusal TooFar = 9
 refusal Outside = 6
+
+-- what comes back: the instant reached, and with a refusal nothing
+unfoldable pub values : Moved → List ℕ
+values (To t) = t .0 ∷ []
+values TooFar = []
+values Outside = []
