@@ -1,7 +1,7 @@
 -- The fields put over 69 blanks are the pieces of the line side by side.
-use Prim.Native.Nat.{ℕ, _+_, _/_, _%_, _^_}
+use Prim.Native.Nat.{ℕ, _+_, _%_}
 use mathlib.Core.Path.{_≡_, refl}
-use mathlib.Core.List.{List, [], _∷_, _++_}
+use mathlib.Core.List.{[], _∷_, _++_}
 use lib.ListN.{replicate}
 use Rattle.tle.specs.Layout.{bytes}
 use Rattle.tle.specs.declared.Record.{Record}

@@ -6,6 +6,6 @@ pub mod Front
 pub mod Writes
 pub mod Facts
 pub mod Values
-pub mod Fields
+pub mod Back
 pub mod Keeps
 pub mod Round

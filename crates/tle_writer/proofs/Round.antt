@@ -1,17 +1,17 @@
 -- The way back: the two lines of a legal record are lawful, no column of them has a fault, and reading them gives that record.
-use Prim.Native.Nat.{ℕ, _+_, _/_, _%_, _<_, _^_}
+use Prim.Native.Nat.{ℕ, _+_, _%_}
 use mathlib.Core.Path.{_≡_, refl, ap, sym, _∙_}
 use mathlib.Core.List.{List, [], _∷_, _++_}
-use mathlib.Core.Bool.{Bool, true, false}
+use mathlib.Core.Bool.{Bool, true}
 use native.Mathlib.Omega.{arith}
 use borrow.Author.Tests.{eq-eqb, le-leb, lt-ltb}
 use lib.Dec.{eqb}
-use lib.ListN.{length, take, getD, length-append}
+use lib.ListN.{length, take, getD}
 use lib.Seq.{take-at, getD-at}
 use Rattle.tle.specs.Layout.{bytes, layout1, layout2, agreed, Lawful}
 use Rattle.tle.specs.Number.{digitOf, sum}
-use Rattle.tle.specs.Legal.{legal, inRanges, inclinationInRange, angleInRange, motionInRange}
-use Rattle.tle.specs.Read.{verdictOf, numberAt, pairOf, fieldsOf, formOf, rangesOf, readOf}
+use Rattle.tle.specs.Legal.{legal}
+use Rattle.tle.specs.Read.{verdictOf, numberAt, pairOf, formOf, rangesOf, readOf}
 use Rattle.tle.specs.declared.Record.{Record}
 use Rattle.tle.specs.declared.Line.{Line}
 use Rattle.tle.specs.declared.Line.the-variants.{One, Two}
@@ -24,142 +24,48 @@ use Rattle.tle_writer.proofs.Bodies.{places}
 use Rattle.tle_writer.proofs.Writes.{length-line}
 use Rattle.tle_writer.proofs.Facts.{Facts, facts}
 use Rattle.tle_writer.proofs.Values.{place-value}
-use Rattle.tle_writer.proofs.Fields.{fields-back}
-use Rattle.tle_writer.proofs.Keeps.{Keeps, AllKeep, alls, leads, keeps-agreed, keeps-append, keeps-join, digits-keep, right-keep, pointed-keep, day-keeps, fraction-keeps, scaled-keeps, letter-keeps, designator-keeps}
+use Rattle.tle_writer.proofs.Back.{fields-back}
+use Rattle.tle_writer.proofs.Keeps.{Field, end, _then_, _⊳_, none, blank, keeps-agreed, alls, leads, digits-keep, right-keep, pointed-keep, day-keeps, fraction-keeps, scaled-keeps, letter-keeps, designator-keeps}
 
 abbrev pub layoutOf : Line → List ℕ
 layoutOf One = layout1
 layoutOf Two = layout2
 
--- the classes of the pieces of each line
-abbrev classes1 : List (List ℕ)
-classes1 =
-    bytes "1 " ∷ alls 5 ∷ bytes "C" ∷ bytes " " ∷ bytes "RffffLll" ∷ bytes " " ∷ alls 2 ∷ (alls 3 ++ bytes "." ++ alls 8)
-    ∷ bytes " " ∷ (bytes "S" ++ bytes "." ++ alls 8) ∷ bytes " " ∷ (bytes "S" ++ alls 5 ++ bytes "E" ++ alls 1)
-    ∷ bytes " " ∷ (bytes "S" ++ alls 5 ++ bytes "E" ++ alls 1) ∷ bytes " " ∷ alls 1 ∷ bytes " " ∷ (leads 3 ++ alls 1) ∷ []
+start1 : Field (bytes "1 ") (bytes "1 ")
+start1 a = refl then refl then end
 
-abbrev classes2 : List (List ℕ)
-classes2 =
-    bytes "2 " ∷ alls 5 ∷ bytes " " ∷ (leads 2 ++ alls 1 ++ bytes "." ++ alls 4) ∷ bytes " " ∷ (leads 2 ++ alls 1 ++ bytes "." ++ alls 4)
-    ∷ bytes " " ∷ alls 7 ∷ bytes " " ∷ (leads 2 ++ alls 1 ++ bytes "." ++ alls 4) ∷ bytes " " ∷ (leads 2 ++ alls 1 ++ bytes "." ++ alls 4)
-    ∷ bytes " " ∷ (leads 1 ++ alls 1 ++ bytes "." ++ alls 8) ∷ (leads 4 ++ alls 1) ∷ []
+start2 : Field (bytes "2 ") (bytes "2 ")
+start2 a = refl then refl then end
 
-start1 : (a : Bool) → Keeps (bytes "1 ") a (bytes "1 ")
-unfolding Keeps
-start1 a = (refl, (refl, tt))
+-- each line keeps its layout, field by field
+keeps1 : (r : Record) → Facts r → Field layout1 (lineOf One r)
+unfolding lineOf closedOf bodyOf join alls leads
+keeps1 r k =
+    (start1 ⊳ digits-keep 5 (r .number) ⊳ letter-keeps (r .class)
+    ⊳ blank ⊳ designator-keeps (r .designator) (k .designator)
+    ⊳ blank ⊳ digits-keep 2 (r .year % 100) ⊳ day-keeps (r .day)
+    ⊳ blank ⊳ fraction-keeps (r .ndot)
+    ⊳ blank ⊳ scaled-keeps (r .nddot)
+    ⊳ blank ⊳ scaled-keeps (r .bstar)
+    ⊳ blank ⊳ digits-keep 1 (r .ephemeris) ⊳ blank ⊳ right-keep 3 (r .element) ⊳ none)
+    ⊳ digits-keep 1 (sum (bodyOf One r) % 10)
 
-start2 : (a : Bool) → Keeps (bytes "2 ") a (bytes "2 ")
-unfolding Keeps
-start2 a = (refl, (refl, tt))
-
-gap : (a : Bool) → Keeps (bytes " ") a (bytes " ")
-unfolding Keeps
-gap a = (refl, tt)
-
-pieces1-keep : (r : Record) → Facts r → AllKeep classes1 (pieces1 r)
-unfolding AllKeep
-pieces1-keep r k = (
-  start1,
-  (
-    digits-keep 5 (r .number),
-    (
-      letter-keeps (r .class),
-      (
-        gap,
-        (
-          designator-keeps (r .designator) (k .designator),
-          (
-            gap,
-            (
-              digits-keep 2 (r .year % 100),
-              (
-                day-keeps (r .day),
-                (
-                  gap,
-                  (
-                    fraction-keeps (r .ndot),
-                    (
-                      gap,
-                      (
-                        scaled-keeps (r .nddot),
-                        (
-                          gap,
-                          (
-                            scaled-keeps (r .bstar),
-                            (gap, (digits-keep 1 (r .ephemeris), (gap, (right-keep 3 (r .element), tt)))),
-                          ),
-                        ),
-                      ),
-                    ),
-                  ),
-                ),
-              ),
-            ),
-          ),
-        ),
-      ),
-    ),
-  ),
-)
-
-pieces2-keep : (r : Record) → AllKeep classes2 (pieces2 r)
-unfolding AllKeep
-pieces2-keep r = (
-  start2,
-  (
-    digits-keep 5 (r .number),
-    (
-      gap,
-      (
-        pointed-keep 2 4 (r .inclination),
-        (
-          gap,
-          (
-            pointed-keep 2 4 (r .node),
-            (
-              gap,
-              (
-                digits-keep 7 (r .eccentricity),
-                (
-                  gap,
-                  (
-                    pointed-keep 2 4 (r .perigee),
-                    (
-                      gap,
-                      (
-                        pointed-keep 2 4 (r .anomaly),
-                        (gap, (pointed-keep 1 8 (r .motion), (right-keep 4 (r .revolution), tt))),
-                      ),
-                    ),
-                  ),
-                ),
-              ),
-            ),
-          ),
-        ),
-      ),
-    ),
-  ),
-)
-
-same1 : join classes1 ++ alls 1 ≡ layout1
-unfolding join alls leads
-same1 = refl
-
-same2 : join classes2 ++ alls 1 ≡ layout2
-unfolding join alls leads
-same2 = refl
-
--- a line keeps its layout where its pieces keep their classes
-closed-keeps : (css bss : List (List ℕ)) → AllKeep css bss → Keeps (join css ++ alls 1) true (closedOf (join bss))
-unfolding closedOf
-closed-keeps css bss k =
-    keeps-append (join css) (alls 1) true (join bss) (digits 1 (sum (join bss) % 10)) (keeps-join css bss true k) (digits-keep 1 _ _)
+keeps2 : (r : Record) → Field layout2 (lineOf Two r)
+unfolding lineOf closedOf bodyOf join alls leads
+keeps2 r =
+    (start2 ⊳ digits-keep 5 (r .number)
+    ⊳ blank ⊳ pointed-keep 2 4 (r .inclination)
+    ⊳ blank ⊳ pointed-keep 2 4 (r .node)
+    ⊳ blank ⊳ digits-keep 7 (r .eccentricity)
+    ⊳ blank ⊳ pointed-keep 2 4 (r .perigee)
+    ⊳ blank ⊳ pointed-keep 2 4 (r .anomaly)
+    ⊳ blank ⊳ pointed-keep 1 8 (r .motion)
+    ⊳ right-keep 4 (r .revolution) ⊳ none)
+    ⊳ digits-keep 1 (sum (bodyOf Two r) % 10)
 
 agreed-all : (which : Line) (r : Record) → Facts r → agreed (layoutOf which) true (lineOf which r) ≡ 69
-unfolding lineOf bodyOf
-agreed-all One r k = keeps-agreed layout1 true (lineOf One r) (rw same1 at (closed-keeps classes1 (pieces1 r) (pieces1-keep r k)))
-agreed-all Two r k = keeps-agreed layout2 true (lineOf Two r) (rw same2 at (closed-keeps classes2 (pieces2 r) (pieces2-keep r)))
+agreed-all One r k = keeps-agreed (keeps1 r k true)
+agreed-all Two r k = keeps-agreed (keeps2 r true)
 
 -- "the two lines written are lawful"
 pub lawful : (which : Line) (r : Record) → legal r ≡ true → Lawful (layoutOf which) (lineOf which r)

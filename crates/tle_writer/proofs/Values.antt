@@ -5,10 +5,9 @@ use mathlib.Core.List.{List, [], _∷_, _++_}
 use mathlib.Core.Bool.{Bool, true, false, cond, not, _&&_, _||_}
 use native.Mathlib.Omega.{arith}
 use native.Mathlib.Nat.{pow-suc}
-use borrow.Author.Tests.{eqb-true, eq-eqb, ne-eqb, le-leb, leb-true, leb-false, ltb-true}
+use borrow.Author.Tests.{eqb-true, le-leb, leb-true, leb-false, ltb-true}
 use lib.Dec.{eqb, leb, ltb}
 use lib.IntN.{ℤ, pos, negsuc, natAbs}
-use Rattle.tle.specs.Layout.{isBlank}
 use Rattle.tle.specs.Number.{digitOf, valueOn, minus, signed}
 use Rattle.tle.specs.Legal.{scaledFits}
 use Rattle.tle.specs.Read.{classOf, yearOf}

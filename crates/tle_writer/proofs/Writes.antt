@@ -1,7 +1,7 @@
 -- A line closed by its checksum, and the answers of writing.
 use Prim.Native.Nat.{ℕ, _+_, _%_, _<_, _≤_}
-use mathlib.Core.Path.{_≡_, refl, sym, ap, _∙_}
-use mathlib.Core.List.{List, [], _∷_, _++_, append-nil}
+use mathlib.Core.Path.{_≡_, refl, ap, _∙_}
+use mathlib.Core.List.{List, [], _++_, append-nil}
 use mathlib.Core.Bool.{true, false}
 use native.Mathlib.Omega.{arith}
 use borrow.Author.Tests.{le-leb, lt-leb}
@@ -13,10 +13,10 @@ use Rattle.tle.specs.Legal.{legal}
 use Rattle.tle.specs.declared.Record.{Record}
 use Rattle.tle.specs.declared.Line.{Line}
 use Rattle.tle.specs.declared.Line.the-variants.{One, Two}
-use Rattle.tle_writer.specs.Field.{place, lead, digits}
+use Rattle.tle_writer.specs.Field.{lead, digits}
 use Rattle.tle_writer.specs.Lines.{join, bodyOf, closedOf, lineOf}
 use Rattle.tle_writer.specs.Over.{over}
-use Rattle.tle_writer.specs.Write.{numberOf, writingOf, after, writtenOver, part, partOf}
+use Rattle.tle_writer.specs.Write.{numberOf, writingOf, writtenOver, part, partOf}
 use Rattle.tle_writer.specs.declared.Writing.{Writing}
 use Rattle.tle_writer.specs.declared.Writing.the-variants.{Written, Illegal, Short}
 use Rattle.tle_writer.proofs.Bodies.{places}

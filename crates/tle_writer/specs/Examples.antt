@@ -1,7 +1,5 @@
 -- The example of 002, as document 01 prints it: written from its record, byte for byte.
 use mathlib.Core.Path.{_≡_, refl}
-use Prim.Native.Nat.{ℕ}
-use mathlib.Core.List.{List}
 use lib.IntN.{pos, negsuc}
 use Rattle.tle.specs.Layout.{bytes}
 use Rattle.tle.specs.Number.{sum, digitOf}

@@ -13,29 +13,29 @@ unfoldable pub join : List (List ℕ) → List ℕ
 join [] = []
 join (x ∷ xs) = x ++ join xs
 
--- line 1, columns 1 to 68
+-- line 1, columns 1 to 68; a year by its last two digits
 abbrev pub pieces1 : Record → List (List ℕ)
 pieces1 r =
-    bytes "1 " ∷ digits 5 (r .number) ∷ (letter (r .class) ∷ [])
-    ∷ bytes " " ∷ designator (r .designator)
-    ∷ bytes " " ∷ digits 2 (r .year % 100) ∷ dayPlaces (r .day)
-    ∷ bytes " " ∷ fraction (r .ndot)
-    ∷ bytes " " ∷ scaled (r .nddot)
-    ∷ bytes " " ∷ scaled (r .bstar)
-    ∷ bytes " " ∷ digits 1 (r .ephemeris) ∷ bytes " " ∷ right 3 (r .element)
+    bytes "1 " ∷ digits 5 (r .number) ∷ (letter (r .class) ∷ [])  -- 1; 3-7; 8
+    ∷ bytes " " ∷ designator (r .designator)  -- 10-17
+    ∷ bytes " " ∷ digits 2 (r .year % 100) ∷ dayPlaces (r .day)  -- 19-20; 21-32
+    ∷ bytes " " ∷ fraction (r .ndot)  -- 34-43
+    ∷ bytes " " ∷ scaled (r .nddot)  -- 45-52
+    ∷ bytes " " ∷ scaled (r .bstar)  -- 54-61
+    ∷ bytes " " ∷ digits 1 (r .ephemeris) ∷ bytes " " ∷ right 3 (r .element)  -- 63; 65-68
     ∷ []
 
 -- line 2, columns 1 to 68
 abbrev pub pieces2 : Record → List (List ℕ)
 pieces2 r =
-    bytes "2 " ∷ digits 5 (r .number)
-    ∷ bytes " " ∷ pointed 2 4 (r .inclination)
-    ∷ bytes " " ∷ pointed 2 4 (r .node)
-    ∷ bytes " " ∷ digits 7 (r .eccentricity)
-    ∷ bytes " " ∷ pointed 2 4 (r .perigee)
-    ∷ bytes " " ∷ pointed 2 4 (r .anomaly)
-    ∷ bytes " " ∷ pointed 1 8 (r .motion)
-    ∷ right 4 (r .revolution)
+    bytes "2 " ∷ digits 5 (r .number)  -- 1; 3-7
+    ∷ bytes " " ∷ pointed 2 4 (r .inclination)  -- 9-16
+    ∷ bytes " " ∷ pointed 2 4 (r .node)  -- 18-25
+    ∷ bytes " " ∷ digits 7 (r .eccentricity)  -- 27-33
+    ∷ bytes " " ∷ pointed 2 4 (r .perigee)  -- 35-42
+    ∷ bytes " " ∷ pointed 2 4 (r .anomaly)  -- 44-51
+    ∷ bytes " " ∷ pointed 1 8 (r .motion)  -- 53-63
+    ∷ right 4 (r .revolution)  -- 64-68
     ∷ []
 
 unfoldable pub bodyOf : Line → Record → List ℕ

@@ -2,7 +2,7 @@
 -- and what lies past it stays.
 use Prim.Native.Nat.{ℕ}
 use mathlib.Core.List.{List, [], _++_}
-use mathlib.Core.Bool.{Bool, cond}
+use mathlib.Core.Bool.{cond}
 use mathlib.Core.Path.{_≡_}
 use denote.Ref.{RefT, now, ptr, at-last}
 use lib.Dec.{leb}

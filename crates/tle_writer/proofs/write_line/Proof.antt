@@ -3,68 +3,68 @@ use mathlib.Core.Path.{_≡_, sym, refl, ap, _∙_}
 use denote.Ref.{now, at-last}
 use borrow.Author.Needs.{needs}
 use Rattle.tle_writer.specs.Write.{numberOf, writingOf}
-use Rattle.tle_writer.specs.Lines.{lineOf}
+use Rattle.tle_writer.specs.declared.Writing.{Writing}
 use Rattle.tle_writer.specs.declared.Writing.the-variants.{Written}
 use Rattle.tle_writer.proofs.Writes.{nothing, zero-written, handed, front, front-long, exactly}
 use Rattle.tle_writer.proofs.write_line.Statement.{statement}
 use Rattle.tle_writer.proofs.write_line.Tie as tie
 
+-- the answer, its number, and that 0 is Written
+abbrev answer : tie.After-number → Writing
+answer c = let a = c .before .before .before .before .before .before .args in writingOf (a .r) (now (a .out))
+
+told : (c : tie.After-number) → c .number .result ≡ numberOf (answer c)
+told c = c .number .ensures ∙ ap numberOf (c .before .before .before .fill-line .ensures .0)
+
+written : (c : tie.After-number) → c .number .result ≡ 0 → answer c ≡ Written
+written c z = zero-written (answer c) (sym (told c) ∙ z)
+
 returns : tie.Need-returns
 returns c =
     let n = c .before .before in
-    let f = n .before .before .before .fill-line in
-    let a = n .before .before .before .before .before .before .args in
-    let w = writingOf (a .r) (now (a .out)) in
-    let e : n .number .result ≡ numberOf w = n .number .ensures ∙ ap numberOf (f .ensures .0) in (
+    let a = n .before .before .before .before .before .before .args in (
       record {
-        bytes = nothing (a .r) (a .which) (now (a .out)) (λ z. c .before .if1 .taken (e ∙ z));
+        bytes = nothing (a .r) (a .which) (now (a .out)) (λ z. c .before .if1 .taken (told n ∙ z));
         begins = refl;
-        whole = λ h. absurd (c .before .if1 .taken (e ∙ ap numberOf h));
+        whole = λ h. absurd (c .before .if1 .taken (told n ∙ ap numberOf h));
       },
-      e,
+      told n,
     )
 
 returns-2 : tie.Need-returns-2
 returns-2 c =
     let n = c .before .before in
-    let f = n .before .before .before .fill-line in
-    let a = n .before .before .before .before .before .before .args in
-    let w = writingOf (a .r) (now (a .out)) in
-    let e : n .number .result ≡ numberOf w = n .number .ensures ∙ ap numberOf (f .ensures .0) in
-    let z : w ≡ Written = zero-written w (sym e ∙ c .before .if1 .left) in
-    let m = exactly (a .r) (a .which) (now (a .out)) _ (f .ensures .1) z (c .if2 .taken) in (
+    let f = n .before .before .before in
+    let a = f .before .before .before .args in
+    let z = written n (c .before .if1 .left) in
+    let m = exactly (a .r) (a .which) (now (a .out)) _ (f .fill-line .ensures .1) z (c .if2 .taken) in (
       record {
         bytes = m ∙ handed (a .r) (a .which) (now (a .out)) z;
         begins = refl;
         whole = λ _ _. ap (at-last (a .out)) m;
       },
-      e,
+      told n,
     )
 
 slice-aggregate-result-2 : tie.Need-slice-aggregate-result-2
 slice-aggregate-result-2 c =
     let n = c .before .before .before in
-    let f = n .before .before .before .fill-line in
-    let a = n .before .before .before .before .before .before .args in
-    let w = writingOf (a .r) (now (a .out)) in
-    let e : n .number .result ≡ numberOf w = n .number .ensures ∙ ap numberOf (f .ensures .0) in
-    let z : w ≡ Written = zero-written w (sym e ∙ c .before .before .if1 .left) in
-    sym (front-long (a .r) (a .which) (now (a .out)) _ (f .ensures .1) z)
+    let f = n .before .before .before in
+    let a = f .before .before .before .args in
+    sym (front-long (a .r) (a .which) (now (a .out)) _ (f .fill-line .ensures .1) (written n (c .before .before .if1 .left)))
 
 returns-3 : tie.Need-returns-3
 returns-3 c =
     let n = c .before .before .before in
-    let f = n .before .before .before .fill-line in
-    let a = n .before .before .before .before .before .before .args in
-    let w = writingOf (a .r) (now (a .out)) in
-    let e : n .number .result ≡ numberOf w = n .number .ensures ∙ ap numberOf (f .ensures .0) in
-    let z : w ≡ Written = zero-written w (sym e ∙ c .before .before .if1 .left) in (
+    let f = n .before .before .before in
+    let a = f .before .before .before .args in
+    let z = written n (c .before .before .if1 .left) in (
       record {
-        bytes = front (a .r) (a .which) (now (a .out)) _ (f .ensures .1) z ∙ handed (a .r) (a .which) (now (a .out)) z;
+        bytes = front (a .r) (a .which) (now (a .out)) _ (f .fill-line .ensures .1) z ∙ handed (a .r) (a .which) (now (a .out)) z;
         begins = refl;
         whole = λ _ q. absurd (c .before .if2 .left q);
       },
-      e,
+      told n,
     )
 
 pub write-line-spec : {M : Type 1} → statement M

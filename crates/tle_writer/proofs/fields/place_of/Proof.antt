@@ -1,0 +1,17 @@
+use borrow.Author.Tests.{eq-eqb, ne-eqb}
+use Rattle.tle_writer.specs.Field.{place}
+use borrow.Author.Needs.{needs}
+use Rattle.tle_writer.proofs.fields.place_of.Statement.{statement}
+use Rattle.tle_writer.proofs.fields.place_of.Tie as tie
+
+returns : tie.Need-returns
+unfolding place
+returns c = simp (eq-eqb _ _ (c .if1 .taken))
+
+returns-2 : tie.Need-returns-2
+unfolding place
+returns-2 c = simp (ne-eqb _ _ (c .if1 .left))
+
+pub place-of-spec : {M : Type 1} → statement M
+place-of-spec = tie.close (tie.spec
+    returns (λ c. search needs) (λ c. search needs) returns-2)
