@@ -2,3 +2,4 @@
 pub mod Laws
 pub mod Iterates
 mod Sides
+mod Atime

@@ -3,9 +3,8 @@
 use Prim.Native.Nat.{ℕ, zero, suc, _+_, _-_}
 use mathlib.Core.Bool.{Bool, true, false, _||_, _&&_, not}
 use lib.Dec.{ltb, eqb}
-use lib.IntN.{pos}
-use lib.Ieee.{Float, neg, ofInt, binary64}
-use Rattle.elementary.specs.Notation.{_⊕_, _⊖_, _⊗_, dec}
+use lib.Ieee.{Float, neg}
+use Rattle.elementary.specs.Notation.{_⊕_, _⊗_, dec}
 use Rattle.satellite.specs.declared.Resonance.{Resonance}
 use Rattle.satellite.specs.declared.Resonance.the-variants as kinds
 use Rattle.satellite.specs.declared.Integrator.{Integrator}
@@ -52,13 +51,13 @@ unfoldable pub deltOf : Side → Float
 deltOf Forward = dec 720 0
 deltOf Back = neg (dec 720 0)
 
--- 002's atime, which is 0.0 and then changes by delt with each stride: a multiple of 720, and every one in reach is an f64
-unfoldable pub atimeOn : Side → Float → Float
-atimeOn Forward x = x
-atimeOn Back x = dec 0 0 ⊖ x
+-- 002's atime: 0.0 at the epoch (2648), and delt more with each stride (2729)
+unfoldable pub atimeAfter : Side → ℕ → Float
+atimeAfter d zero = dec 0 0
+atimeAfter d (suc n) = atimeAfter d n ⊕ deltOf d
 
 unfoldable pub atimeOf : Place → Float
-atimeOf p = atimeOn (p .side) (ofInt binary64 (pos (number p)) ⊗ dec 720 0)
+atimeOf p = atimeAfter (p .side) (number p)
 
 -- 2706, and the derivatives at the position
 unfoldable pub dotsAt : Integrator → Place → Dots

@@ -77,15 +77,6 @@ fn delt_of(side: Side) -> f64
     }
 }
 
-fn atime_on(side: Side, x: f64) -> f64
-    ensures { λ r. ⌜ r ≡ P.atimeOn side x ⌝ }
-{
-    match side {
-        Side::Forward => x,
-        Side::Back => 0.0 - x,
-    }
-}
-
 fn next_xli(d: Dots, xli: f64, delt: f64) -> f64
     ensures { λ r. ⌜ r ≡ P.nextXli d xli delt ⌝ }
 {
@@ -99,13 +90,17 @@ fn next_xni(d: Dots, xni: f64, delt: f64) -> f64
 }
 
 impl Place {
-    // 002's atime, minutes from the epoch.
+    // 002's atime, minutes from the epoch, with no sum over the strides.
     pub(crate) fn atime(self) -> f64
         ensures { λ r. ⌜ r ≡ P.atimeOf self ⌝ }
     {
         let n = self.strides.0;
         let side = self.side;
-        atime_on(side, n as f64 * 720.0)
+        let x = n as f64 * 720.0;
+        match side {
+            Side::Forward => x,
+            Side::Back => 0.0 - x,
+        }
     }
 
     pub(crate) fn dots(self, i: Integrator) -> Dots
