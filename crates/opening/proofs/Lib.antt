@@ -1,0 +1,2 @@
+-- What a caller's proofs cite.
+pub mod Made
