@@ -1,0 +1,10 @@
+use lib.Ieee.{round, units, odd, size, span, climb, ofBits, neg}
+use lib.Count.{trailingZeros}
+use Rattle.sgp4.specs.DeepSpace.{perturbed}
+use borrow.Author.Needs.{needs}
+use Rattle.sgp4.proofs.deep_space.perturbed.Statement.{statement}
+use Rattle.sgp4.proofs.deep_space.perturbed.Tie as tie
+
+pub perturbed-spec : {M : Type 1} → statement M
+unfolding perturbed round units odd size span climb trailingZeros ofBits neg
+perturbed-spec = tie.close (tie.spec (λ c κs. search needs) (λ c. simp (← c .before .no-ellipse .ensures, c .if1 .taken) (cc)) (λ c κs. search needs) (λ c κs. search needs) (λ c κs. search needs) (λ c κs. search needs) (λ c. simp (← c .before .before .before .before .before .no-ellipse .ensures, c .before .before .before .before .if1 .left) (cc)))

@@ -1,0 +1,10 @@
+use lib.Ieee.{round, units, odd, size, span, climb, ofBits, neg}
+use lib.Count.{trailingZeros}
+use Rattle.sgp4.specs.Sgp4.{stateAt}
+use borrow.Author.Needs.{needs}
+use Rattle.sgp4.proofs.state_at.Statement.{statement}
+use Rattle.sgp4.proofs.state_at.Tie as tie
+
+pub state-at-spec : {M : Type 1} → statement M
+unfolding stateAt round units odd size span climb trailingZeros ofBits neg
+state-at-spec = tie.close (tie.spec (λ c κs. search needs) (λ c. cc))

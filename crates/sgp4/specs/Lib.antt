@@ -1,0 +1,3 @@
+pub mod DeepSpace
+pub mod Sgp4
+pub mod Row
