@@ -1,5 +1,4 @@
 use borrow.Author.Needs.{needs}
-use mathlib.Core.Path.{refl}
 use Rattle.tle.specs.Legal.{designatorFits}
 use Rattle.tle.proofs.limits.designator_fits.Statement.{statement}
 use Rattle.tle.proofs.limits.designator_fits.Tie as tie
