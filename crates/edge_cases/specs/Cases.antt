@@ -1,0 +1,90 @@
+-- Document 01, "Cases at the edges": the cases marked P as data, what each claims, and the list of them.
+use Prim.Native.Nat.{ℕ, _%_}
+use mathlib.Core.Path.{_≡_}
+use mathlib.Core.List.{List, [], _∷_}
+use lib.ListN.{take}
+use Rattle.instant.specs.Calendar.{dayMicros, epochMicros}
+use Rattle.tle.specs.Layout.{bytes}
+use Rattle.tle.specs.Number.{sum}
+use Rattle.tle.specs.Refusals.{numberOf, valuesOf, Values, line, line-column, field}
+use Rattle.tle.specs.Read.{checksumOf, fieldsOf, readOf}
+use Rattle.tle.specs.declared.Field.the-variants.{Day, Inclination, Node}
+use Rattle.tle.specs.declared.Record as tle
+use Rattle.tle.specs.declared.Reading.{Reading}
+use Rattle.tle.specs.declared.Reading.the-variants.{Record, Refused}
+
+pub record Pair : Type 0 where
+  pub line1 : List ℕ
+  pub line2 : List ℕ
+
+pub data Case : Type 0 where
+  -- a line, the sum over its columns 1 to 68, and the checksum digit
+  line-sum : List ℕ → ℕ → ℕ → Case
+  -- a year, a day of it in units of 10 ^ -8, and the microseconds of that day
+  day-micros : ℕ → ℕ → ℕ → Case
+  -- a pair that is read, a field of its record, and the field's value
+  reads : Pair → (tle.Record → ℕ) → ℕ → Case
+  -- a pair that is refused, the number, and what comes back with it
+  refuses : Pair → ℕ → Values → Case
+
+-- a refusal by its number and what comes back with it; a record is none
+pub data Outcome : Type 0 where
+  accepted : Outcome
+  refused : ℕ → Values → Outcome
+
+unfoldable pub outcome : Reading → Outcome
+outcome (Record r) = accepted
+outcome (Refused why) = refused (numberOf why) (valuesOf why)
+
+-- what a case claims
+unfoldable pub Claim : Case → Type 0
+Claim (line-sum l total digit) = (sum (take 68 l) ≡ total) × (checksumOf l ≡ digit)
+Claim (day-micros year day micros) = epochMicros year day % dayMicros ≡ micros
+Claim (reads p part value) =
+    (readOf (p .line1) (p .line2) ≡ Record (fieldsOf (p .line1) (p .line2))) × (part (fieldsOf (p .line1) (p .line2)) ≡ value)
+Claim (refuses p number values) = outcome (readOf (p .line1) (p .line2)) ≡ refused number values
+
+-- a claim holds of every element of a list
+unfoldable pub Every : {A : Type 0} → (A → Type 0) → List A → Type 0
+Every P [] = Unit {0}
+Every P (a ∷ l) = P a × Every P l
+
+-- 002's example
+abbrev pub line1 : List ℕ
+line1 = bytes "1 00005U 58002B   00179.78495062  .00000023  00000-0  28098-4 0  4753"
+
+abbrev pub line2 : List ℕ
+line2 = bytes "2 00005  34.2682 348.7242 1859667 331.7664  19.3264 10.82419157413667"
+
+-- the example with another line 1, or another line 2
+abbrev pub with1 : List ℕ → Pair
+with1 l = record { line1 = l; line2 = line2 }
+
+abbrev pub with2 : List ℕ → Pair
+with2 l = record { line1 = line1; line2 = l }
+
+-- the cases, in document 01's order
+unfoldable pub edges : List Case
+edges =
+    -- line sums above are 133 and 217, digits 3 and 7
+    line-sum line1 133 3
+    ∷ line-sum line2 217 7
+    -- day fraction 78495062 is 67,819,733,568 microseconds
+    ∷ day-micros 2000 17978495062 67819733568
+    -- a comma in line 2 column 12: refusal 3, column 12
+    ∷ refuses (with2 (bytes "2 00005  34,2682 348.7242 1859667 331.7664  19.3264 10.82419157413667")) 3 (line-column 2 12)
+    -- 68 bytes: 1
+    ∷ refuses (with1 (take 68 line1)) 1 (line 1)
+    ∷ refuses (with2 (take 68 line2)) 1 (line 2)
+    -- inclination 180.0000 read, 180.0001 is 6
+    ∷ reads (with2 (bytes "2 00005 180.0000 348.7242 1859667 331.7664  19.3264 10.82419157413661")) (λ r. r .inclination) 1800000
+    ∷ refuses (with2 (bytes "2 00005 180.0001 348.7242 1859667 331.7664  19.3264 10.82419157413662")) 6 (field Inclination)
+    -- node 359.9999 read, 360.0000 is 6
+    ∷ reads (with2 (bytes "2 00005  34.2682 359.9999 1859667 331.7664  19.3264 10.82419157413660")) (λ r. r .node) 3599999
+    ∷ refuses (with2 (bytes "2 00005  34.2682 360.0000 1859667 331.7664  19.3264 10.82419157413666")) 6 (field Node)
+    -- year 57 is 1957, 56 is 2056
+    ∷ reads (with1 (bytes "1 00005U 58002B   57179.78495062  .00000023  00000-0  28098-4 0  4755")) (λ r. r .year) 1957
+    ∷ reads (with1 (bytes "1 00005U 58002B   56179.78495062  .00000023  00000-0  28098-4 0  4754")) (λ r. r .year) 2056
+    -- day 000.99999999 is 6
+    ∷ refuses (with1 (bytes "1 00005U 58002B   00000.99999999  .00000023  00000-0  28098-4 0  4757")) 6 (field Day)
+    ∷ []
