@@ -80,16 +80,15 @@ fn verified(a: u64, c: u64) -> u64
                 if u < 536870912 {
                     let d = u * 67108864;
                     let v = t * t + 18014398509481984;
-                    if d <= v + 3 * c {
+                    if d <= v + c {
+                        if v < d + c {
+                            return c;
+                        }
                         if v + 2 < d + 3 * c {
-                            if d > v + c {
-                                return c + 1;
-                            }
-                            if d + c > v {
-                                return c;
-                            }
                             return c - 1;
                         }
+                    } else if d <= v + 3 * c {
+                        return c + 1;
                     }
                 }
             }
