@@ -14,30 +14,37 @@ returns c = simp (ne-eqb _ _ (c .if1 .taken))
 
 returns-2 : tie.Need-returns-2
 unfolding verdictOf
-returns-2 c = let n = c .before .agreeing .result in let e : ltb 0 n ≡ false = le-ltb 0 n (omega arith) in rw (← c .before .agreeing .ensures .0) (simp (eq-eqb _ _ (c .before .before .if1 .left), e))
+returns-2 c =
+    let a = c .before in
+    let none : ltb 0 (a .agreeing .result) ≡ false = le-ltb 0 (a .agreeing .result) (omega arith) in
+    rw (← a .agreeing .ensures .0) (simp (eq-eqb _ _ (a .before .if1 .left), none))
 
 returns-3 : tie.Need-returns-3
 unfolding verdictOf
 returns-3 c =
-    let n = c .before .before .agreeing .result in
-    let e : ltb 0 n ≡ true = lt-ltb 0 n (omega arith) in
-    rw (← c .before .before .agreeing .ensures .0) (simp (eq-eqb _ _ (c .before .before .before .if1 .left), e, ne-eqb _ _ (c .if3 .taken)))
+    let a = c .before .before in
+    let some : ltb 0 (a .agreeing .result) ≡ true = lt-ltb 0 (a .agreeing .result) (omega arith) in
+    rw (← a .agreeing .ensures .0) (simp (eq-eqb _ _ (a .before .if1 .left), some, ne-eqb _ _ (c .if3 .taken)))
 
 returns-4 : tie.Need-returns-4
 unfolding verdictOf
 returns-4 c =
-    let n = c .before .before .before .before .before .before .before .agreeing .result in
-    let e : ltb 0 n ≡ true = lt-ltb 0 n (omega arith) in
-    rw (← c .before .before .before .before .before .before .before .agreeing .ensures .0, ← c .before .before .before .checksum .ensures, ← c .before .digit .ensures .0)
-    (simp (eq-eqb _ _ (c .before .before .before .before .before .before .before .before .if1 .left), e, eq-eqb _ _ (c .before .before .before .before .before .if3 .left), ne-eqb _ _ (c .if4 .taken)))
+    let sum = c .before .before .before in
+    let whole = sum .before .before in
+    let a = whole .before .before in
+    let some : ltb 0 (a .agreeing .result) ≡ true = lt-ltb 0 (a .agreeing .result) (omega arith) in
+    rw (← a .agreeing .ensures .0, ← sum .checksum .ensures, ← c .before .digit .ensures .0)
+    (simp (eq-eqb _ _ (a .before .if1 .left), some, eq-eqb _ _ (whole .if3 .left), ne-eqb _ _ (c .if4 .taken)))
 
 returns-5 : tie.Need-returns-5
 unfolding verdictOf
 returns-5 c =
-    let n = c .before .before .before .before .before .before .before .agreeing .result in
-    let e : ltb 0 n ≡ true = lt-ltb 0 n (omega arith) in
-    rw (← c .before .before .before .before .before .before .before .agreeing .ensures .0, ← c .before .before .before .checksum .ensures, ← c .before .digit .ensures .0)
-    (simp (eq-eqb _ _ (c .before .before .before .before .before .before .before .before .if1 .left), e, eq-eqb _ _ (c .before .before .before .before .before .if3 .left), eq-eqb _ _ (c .if4 .left)))
+    let sum = c .before .before .before in
+    let whole = sum .before .before in
+    let a = whole .before .before in
+    let some : ltb 0 (a .agreeing .result) ≡ true = lt-ltb 0 (a .agreeing .result) (omega arith) in
+    rw (← a .agreeing .ensures .0, ← sum .checksum .ensures, ← c .before .digit .ensures .0)
+    (simp (eq-eqb _ _ (a .before .if1 .left), some, eq-eqb _ _ (whole .if3 .left), eq-eqb _ _ (c .if4 .left)))
 
 pub judge-line-spec : {M : Type 1} → statement M
 judge-line-spec =
