@@ -4,14 +4,14 @@ use mathlib.Core.Bool.{Bool, true, false, cond, not, _&&_, Bool·beq}
 use Prim.Native.Nat.{ℕ, zero, suc, _+_, _-_, _*_, _≤_, _<_, _^_}
 use native.Mathlib.Nat.{mul-one, mul-comm, mul-assoc, mul-left-comm, mul-pos, zero-mul, add-mul}
 use native.Mathlib.Omega.{arith}
-use lib.IntN.{ℤ, pos, negsuc}
+use lib.IntN.{ℤ, pos}
 use lib.Dec.{ltb}
 use lib.Ieee.{Float, nan, inf, fin, Format, binary64, up, down, unlike, neg, round, add, sub, mul, sum, ofInt}
 use lib.Ieee.Fits.{down-pos}
 use lib.Ieee.Exact.{HasValue}
 use lib.Ieee.Scale.{round-same}
 use lib.Ieee.Back.{round-whole}
-use borrow.Author.Tests.{lt-ltb, le-ltb}
+use borrow.Author.Tests.{lt-ltb}
 use Rattle.elementary.specs.Notation.{_⊕_, _⊖_, _⊗_, dec}
 use Rattle.resonance.specs.declared.place.Side.{Side}
 use Rattle.resonance.specs.declared.place.Side.the-variants.{Forward, Back}

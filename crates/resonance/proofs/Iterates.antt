@@ -1,16 +1,15 @@
 -- A saved position that is the iterate at its stride number is carried on to the iterate at the number asked.
 use mathlib.Core.Path.{_≡_, refl, sym, ap, _∙_}
-use Prim.Native.Nat.{ℕ, zero, suc, _+_, _-_, _≤_, _<_}
-use native.Mathlib.Numerals.{add-one}
+use Prim.Native.Nat.{ℕ, zero, suc, _+_, _-_, _≤_}
 use native.Mathlib.Omega.{arith}
 use mathlib.Core.Bool.{Bool, true, false, _&&_, _||_, not, cond}
 use lib.Dec.{ltb, eqb, leb}
-use borrow.Author.Tests.{ltb-false, not-true, ltb-true, le-leb, lt-leb, le-ltb, lt-ltb, ne-eqb, leb-true, leb-false}
+use borrow.Author.Tests.{le-ltb, lt-ltb, ne-eqb, leb-true, leb-false}
 use Rattle.satellite.specs.declared.Integrator.{Integrator}
 use Rattle.resonance.specs.declared.place.Side.{Side}
 use Rattle.resonance.specs.declared.place.Side.the-variants.{Forward, Back}
 use Rattle.resonance.specs.declared.place.Place.{Place}
-use Rattle.resonance.proofs.Laws.{begun-le}
+use Rattle.resonance.proofs.Laws.{and-left, begun-le}
 use Rattle.resonance.specs.Place.{number, sameSide, resumes, begun, pick, facing, stride, iter, epochOf, kept, advanced, rise}
 
 -- the position of n strides on the side d from the epoch
@@ -86,10 +85,6 @@ from-epoch i e m = let z : m - 0 ≡ m = omega arith in rw z
 and-right : (a b : Bool) → a && b ≡ true → b ≡ true
 and-right true b h = h
 and-right false b h = cc
-
-and-left : (a b : Bool) → a && b ≡ true → a ≡ true
-and-left true b h = refl
-and-left false b h = h
 
 serves-suc : (d e : Side) (n m : ℕ) → serves d (suc n) e m ≡ true → (suc n ≤ m) × (d ≡ e)
 unfolding serves

@@ -1,15 +1,14 @@
 -- Laws of the saved position that the loop of strides rests on.
 use mathlib.Core.Path.{_≡_, refl, sym, ap, _∙_}
 use Prim.Native.Nat.{ℕ, zero, suc, _+_, _-_, _≤_, _<_}
-use native.Mathlib.Numerals.{add-one}
 use native.Mathlib.Omega.{arith}
-use mathlib.Core.Bool.{Bool, true, false, _&&_, _||_, not}
-use lib.Dec.{ltb, eqb}
+use mathlib.Core.Bool.{Bool, true, false, _&&_, not}
+use lib.Dec.{ltb}
 use borrow.Author.Tests.{ltb-false, not-true}
 use Rattle.satellite.specs.declared.Integrator.{Integrator}
 use Rattle.resonance.specs.declared.place.Side.{Side}
 use Rattle.resonance.specs.declared.place.Place.{Place}
-use Rattle.resonance.specs.Place.{number, resumes, begun, pick, facing, stride, iter, epochOf, kept, advanced}
+use Rattle.resonance.specs.Place.{number, resumes, begun, pick, facing, stride, iter, epochOf, kept}
 
 -- an `&&` that is true has its first half true
 pub and-left : (a b : Bool) → a && b ≡ true → a ≡ true
