@@ -1,2 +1,6 @@
--- What a caller's proofs cite.
+-- What a caller's proofs cite: an opened satellite is newly opened, and every number in it is finite.
+mod Tests
+mod FloatLaws
+mod Guard
 pub mod Made
+pub mod AllFinite

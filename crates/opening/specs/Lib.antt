@@ -1,3 +1,4 @@
 pub mod Elements
 pub mod DeepSpace
 pub mod Opening
+pub mod Finite
