@@ -73,7 +73,7 @@ pub(crate) fn letter_of(class: Class) -> u8
     }
 }
 
-// Each of these gives the line with a field over its columns after the first at.
+// Each function below gives the line with a field over its columns after the first at.
 
 pub(crate) fn put_byte(line: [u8; 69], at: usize, b: u8) -> [u8; 69]
     requires { ⌜ at + 1 ≤ 69 ⌝ }
@@ -92,7 +92,7 @@ pub(crate) fn put_right(line: [u8; 69], at: usize, w: usize, n: u64) -> [u8; 69]
     put_at(l, at + w, 1, b'0', n % 10)
 }
 
-// One more unit is one more before the point: 10 to the power of the places after it.
+// Right-set in w + 1 places before the point and p digits after it; unit is 10 to the power of p.
 pub(crate) fn put_pointed(
     line: [u8; 69],
     at: usize,
