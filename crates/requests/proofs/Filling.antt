@@ -1,0 +1,228 @@
+-- The rows of a list, written one after the other at the front of the rooms that are lent.
+use mathlib.Core.Path.{_≡_, refl, sym, ap, _∙_}
+use mathlib.Core.Bool.{Bool, true, false, cond}
+use mathlib.Core.List.{List, [], _∷_, _++_, append-assoc}
+use Prim.Native.Nat.{ℕ, zero, suc, _+_, _*_, _-_, _/_, _≤_, _<_}
+use native.Mathlib.Numerals.{add-one}
+use native.Mathlib.Omega.{arith}
+use lib.ListN.{length, take, drop, set, getD, length-append, length-take, length-drop, length-set}
+use lib.Seq.{drop-cons, append-snoc, set-append-seam, sets, take-suc, length-take-le, take-length, length-sets}
+use lib.Dec.{leb}
+use borrow.Author.Tests.{leb-true}
+use lib.IntN.{ℤ, natAbs}
+use lib.Ieee.{Float}
+use Rattle.satellite.specs.declared.Model.{Model}
+use Rattle.resonance.specs.declared.place.Place.{Place}
+use Rattle.resonance.specs.Place.{advanceOf, rise}
+use Rattle.resonance.specs.Time.{inRange, wholeStrides, resonant}
+use Rattle.sgp4.specs.declared.Row.{Row}
+use Rattle.sgp4.specs.Sgp4.{integratorOf}
+use Rattle.opening.specs.declared.opening.Satellite.{Satellite}
+use Rattle.requests.specs.declared.Asked.{Asked}
+use Rattle.requests.specs.declared.Answered.{Answered}
+use Rattle.requests.specs.Request.{reached, choose, inside, outside, asked, answered}
+use Rattle.requests.specs.Lists.{rowsFrom, stridesFrom, satelliteFrom, refusalsOf, statesOf, roundsOf, stateOf, over}
+
+abbrev pub holding : Model → Place → Satellite
+holding k p = record { model = k; place = p }
+
+-- ── one element, and a run of them, more at the front of a room ──
+
+module _ {A : Type 0} where
+  over-more : (xs old : List A) (v : A) → length xs < length old → set (over xs old) (length xs) v ≡ over (xs ++ (v ∷ [])) old
+  over-more xs old v h =
+      rw (drop-cons old (length xs) v h, set-append-seam)
+      (sym (append-snoc xs v (drop (suc (length xs)) old)) ∙ ap (λ n. (xs ++ (v ∷ [])) ++ drop n old) (sym (length-append xs (v ∷ []) ∙ add-one (length xs))))
+
+  pub over-set : (xs old : List A) (v : A) (n : ℕ) → length xs ≡ n → n < length old → set (over xs old) n v ≡ over (xs ++ (v ∷ [])) old
+  over-set xs old v n e h = ap (λ k. set (over xs old) k v) (sym e) ∙ over-more xs old v (omega arith)
+
+  pub over-sets : (vs xs old : List A) (n : ℕ) → length xs ≡ n → n + length vs ≤ length old → sets (over xs old) n vs ≡ over (xs ++ vs) old
+  over-sets [] xs old n e h = ap (λ l. over l old) (sym (append-nil xs))
+    where
+      append-nil : (xs : List A) → xs ++ [] ≡ xs
+      append-nil [] = refl
+      append-nil (x ∷ xs) = ap (λ l. x ∷ l) (append-nil xs)
+  over-sets (v ∷ vs) xs old n e h =
+      ap (λ l. sets l (suc n) vs) (over-set xs old v n e (omega arith))
+      ∙ over-sets vs (xs ++ (v ∷ [])) old (suc n) (length-append xs (v ∷ []) ∙ omega arith) (omega arith)
+      ∙ ap (λ l. over l old) (append-assoc xs (v ∷ []) vs)
+
+  pub length-over : (xs old : List A) → length xs ≤ length old → length (over xs old) ≡ length old
+  length-over xs old h = omega (arith, length-append xs (drop (length xs) old), length-drop (length xs) old)
+
+-- ── one time more at the end of a list ──
+
+satellite-snoc : (s : Satellite) (ts : List ℤ) (t : ℤ) → satelliteFrom s (ts ++ (t ∷ [])) ≡ answered (satelliteFrom s ts) t .satellite
+satellite-snoc s [] t = refl
+satellite-snoc s (u ∷ ts) t = satellite-snoc (answered s u .satellite) ts t
+
+strides-snoc : (s : Satellite) (ts : List ℤ) (t : ℤ) → stridesFrom s (ts ++ (t ∷ [])) ≡ stridesFrom s ts + answered (satelliteFrom s ts) t .strides .0
+strides-snoc s [] t = omega arith
+strides-snoc s (u ∷ ts) t = omega (arith, strides-snoc (answered s u .satellite) ts t)
+
+rows-snoc : (s : Satellite) (ts : List ℤ) (t : ℤ) → rowsFrom s (ts ++ (t ∷ [])) ≡ rowsFrom s ts ++ (answered (satelliteFrom s ts) t .row ∷ [])
+rows-snoc s [] t = refl
+rows-snoc s (u ∷ ts) t = ap (λ l. answered s u .row ∷ l) (rows-snoc (answered s u .satellite) ts t)
+
+refusals-snoc : (rs : List Row) (r : Row) → refusalsOf (rs ++ (r ∷ [])) ≡ refusalsOf rs ++ (r .refusal ∷ [])
+refusals-snoc [] r = refl
+refusals-snoc (q ∷ rs) r = ap (λ l. q .refusal ∷ l) (refusals-snoc rs r)
+
+rounds-snoc : (rs : List Row) (r : Row) → roundsOf (rs ++ (r ∷ [])) ≡ roundsOf rs ++ (r .rounds ∷ [])
+rounds-snoc [] r = refl
+rounds-snoc (q ∷ rs) r = ap (λ l. q .rounds ∷ l) (rounds-snoc rs r)
+
+states-snoc : (rs : List Row) (r : Row) → statesOf (rs ++ (r ∷ [])) ≡ statesOf rs ++ stateOf r
+states-snoc [] r = refl
+states-snoc (q ∷ rs) r = ap (λ l. stateOf q ++ l) (states-snoc rs r)
+
+length-rows : (s : Satellite) (ts : List ℤ) → length (rowsFrom s ts) ≡ length ts
+length-rows s [] = refl
+length-rows s (t ∷ ts) = ap suc (length-rows (answered s t .satellite) ts)
+
+length-refusals : (rs : List Row) → length (refusalsOf rs) ≡ length rs
+length-refusals [] = refl
+length-refusals (r ∷ rs) = ap suc (length-refusals rs)
+
+length-rounds : (rs : List Row) → length (roundsOf rs) ≡ length rs
+length-rounds [] = refl
+length-rounds (r ∷ rs) = ap suc (length-rounds rs)
+
+length-states : (rs : List Row) → length (statesOf rs) ≡ 6 * length rs
+length-states [] = refl
+length-states (r ∷ rs) = omega (arith, length-states rs)
+
+-- ── a time takes at most 7,304 strides ──
+
+whole-by : (b : Bool) (x : ℕ) → x ≤ 315532800000000 → cond b (x / 43200000000) 0 ≤ 7304
+whole-by true x h = omega arith
+whole-by false x h = omega arith
+
+-- ── a row's six numbers, stored one by one ──
+
+pub puts : (l : List Float) (n : ℕ) (r : Row)
+    → set (set (set (set (set (set l n (r .x)) (n + 1) (r .y)) (n + 2) (r .z)) (n + 3) (r .vx)) (n + 4) (r .vy)) (n + 5) (r .vz) ≡ sets l n (stateOf r)
+puts l n r =
+    let e1 : n + 1 ≡ suc n = omega arith in
+    let e2 : n + 2 ≡ suc (suc n) = omega arith in
+    let e3 : n + 3 ≡ suc (suc (suc n)) = omega arith in
+    let e4 : n + 4 ≡ suc (suc (suc (suc n))) = omega arith in
+    let e5 : n + 5 ≡ suc (suc (suc (suc (suc n)))) = omega arith in
+    rw (e1, e2, e3, e4, e5)
+
+few-by : (k : Model) (p : Place) (t : ℤ) (b : Bool) → leb (natAbs t) 315532800000000 ≡ b → choose b (inside k p t) (outside p) .strides .0 ≤ 7304
+unfolding reached advanceOf rise wholeStrides
+few-by k p t true h = omega (arith, whole-by (resonant (integratorOf k .resonance)) (natAbs t) (leb-true (natAbs t) 315532800000000 h))
+few-by k p t false h = omega arith
+
+few : (k : Model) (p : Place) (t : ℤ) → asked k p t .strides .0 ≤ 7304
+unfolding asked inRange
+few k p t = few-by k p t (leb (natAbs t) 315532800000000) refl
+
+pub few-of : (r : Asked) (k : Model) (p : Place) (t : ℤ) → r ≡ asked k p t → r .strides .0 ≤ 7304
+few-of r k p t e = omega (arith, few k p t, ap (λ z. z .strides .0) e)
+
+-- ── the loop's invariant: the rows of the first i times are written ──
+
+pub record Filling (ts : List ℤ) (a₀ : List ℕ) (b₀ : List Float) (c₀ : List ℕ) (k : Model) (p₀ : Place) (a : List ℕ) (b : List Float) (c : List ℕ) (p : Place) (n i : ℕ) : Type 0 where
+  pub upto : i ≤ length ts
+  pub most : length ts ≤ 1024
+  pub roomA : length ts ≤ length a₀
+  pub roomB : 6 * length ts ≤ length b₀
+  pub roomC : length ts ≤ length c₀
+  pub lenA : length a ≡ length a₀
+  pub lenB : length b ≡ length b₀
+  pub lenC : length c ≡ length c₀
+  pub held : holding k p ≡ satelliteFrom (holding k p₀) (take i ts)
+  pub strides : n ≡ stridesFrom (holding k p₀) (take i ts)
+  pub few : n ≤ 7304 * i
+  pub refusals : a ≡ over (refusalsOf (rowsFrom (holding k p₀) (take i ts))) a₀
+  pub states : b ≡ over (statesOf (rowsFrom (holding k p₀) (take i ts))) b₀
+  pub rounds : c ≡ over (roundsOf (rowsFrom (holding k p₀) (take i ts))) c₀
+
+pub filling-none : (ts : List ℤ) (a : List ℕ) (b : List Float) (c : List ℕ) (k : Model) (p : Place) → length ts ≤ 1024 → length ts ≤ length a → 6 * length ts ≤ length b → length ts ≤ length c
+    → Filling ts a b c k p a b c p 0 0
+filling-none ts a b c k p hm ha hb hc = record {
+  upto = omega arith;
+  most = hm;
+  roomA = ha;
+  roomB = hb;
+  roomC = hc;
+  lenA = refl;
+  lenB = refl;
+  lenC = refl;
+  held = refl;
+  strides = refl;
+  few = omega arith;
+  refusals = refl;
+  states = refl;
+  rounds = refl;
+}
+
+-- an answer with the model beside it
+abbrev whole : Model → Asked → Answered
+whole k r = record { row = r .row; strides = r .strides; satellite = holding k (r .place) }
+
+pub filling-more : (ts : List ℤ) (a₀ : List ℕ) (b₀ : List Float) (c₀ : List ℕ) (k : Model) (p₀ : Place) (a : List ℕ) (b : List Float) (c : List ℕ) (p : Place) (n i : ℕ) (d u : ℤ) (b′ : List Float) (r : Asked)
+    → Filling ts a₀ b₀ c₀ k p₀ a b c p n i → i < length ts → r ≡ asked k p u → u ≡ getD ts i d → b′ ≡ sets b (6 * i) (stateOf (r .row))
+    → Filling ts a₀ b₀ c₀ k p₀ (set a i (r .row .refusal)) b′ (set c i (r .row .rounds)) (r .place) (n + r .strides .0) (i + 1)
+filling-more ts a₀ b₀ c₀ k p₀ a b c p n i d u b′ r f h hr hu hb =
+    let s₀ = holding k p₀ in
+    let xs = take i ts in
+    let t = getD ts i d in
+    let one : take (i + 1) ts ≡ xs ++ (t ∷ []) = ap (λ k. take k ts) (add-one i) ∙ take-suc ts i d h in
+    let same : whole k r ≡ answered (satelliteFrom s₀ xs) t = ap (whole k) (hr ∙ ap (asked k p) hu) ∙ ap (λ z. answered z t) (f .held) in
+    let rows : rowsFrom s₀ (take (i + 1) ts) ≡ rowsFrom s₀ xs ++ (r .row ∷ []) =
+    ap (rowsFrom s₀) one ∙ rows-snoc s₀ xs t ∙ ap (λ z. rowsFrom s₀ xs ++ (z .row ∷ [])) (sym same) in
+    let long : length (rowsFrom s₀ xs) ≡ i = length-rows s₀ xs ∙ length-take-le i ts (f .upto) in
+    record {
+      upto = omega arith;
+      most = f .most;
+      roomA = f .roomA;
+      roomB = f .roomB;
+      roomC = f .roomC;
+      lenA = length-set a i (r .row .refusal) ∙ f .lenA;
+      lenB = ap length hb ∙ length-sets b (6 * i) (stateOf (r .row)) ∙ f .lenB;
+      lenC = length-set c i (r .row .rounds) ∙ f .lenC;
+      held = ap (λ z. z .satellite) same ∙ sym (ap (satelliteFrom s₀) one ∙ satellite-snoc s₀ xs t);
+      strides = ap (λ z. n + z .strides .0) same ∙ ap (λ z. z + answered (satelliteFrom s₀ xs) t .strides .0) (f .strides) ∙ sym (ap (stridesFrom s₀) one ∙ strides-snoc s₀ xs t);
+      few = omega (arith, f .few, few-of r k p u hr);
+      refusals =
+          ap (λ l. set l i (r .row .refusal)) (f .refusals)
+          ∙ over-set (refusalsOf (rowsFrom s₀ xs)) a₀ (r .row .refusal) i (length-refusals (rowsFrom s₀ xs) ∙ long) (omega (arith, f .roomA))
+          ∙ ap (λ l. over l a₀) (sym (ap refusalsOf rows ∙ refusals-snoc (rowsFrom s₀ xs) (r .row)));
+      states =
+          hb
+          ∙ ap (λ l. sets l (6 * i) (stateOf (r .row))) (f .states)
+          ∙ over-sets (stateOf (r .row)) (statesOf (rowsFrom s₀ xs)) b₀ (6 * i) (omega (arith, length-states (rowsFrom s₀ xs), long)) (omega (arith, f .roomB))
+          ∙ ap (λ l. over l b₀) (sym (ap statesOf rows ∙ states-snoc (rowsFrom s₀ xs) (r .row)));
+      rounds =
+          ap (λ l. set l i (r .row .rounds)) (f .rounds)
+          ∙ over-set (roundsOf (rowsFrom s₀ xs)) c₀ (r .row .rounds) i (length-rounds (rowsFrom s₀ xs) ∙ long) (omega (arith, f .roomC))
+          ∙ ap (λ l. over l c₀) (sym (ap roundsOf rows ∙ rounds-snoc (rowsFrom s₀ xs) (r .row)));
+    }
+
+-- at the end all are
+all-times : (ts : List ℤ) (i : ℕ) → i ≤ length ts → length ts ≤ i → take i ts ≡ ts
+all-times ts i h k = let e : i ≡ length ts = omega arith in ap (λ j. take j ts) e ∙ take-length ts
+
+-- what the rooms hold at the end
+pub record Done (ts : List ℤ) (a₀ : List ℕ) (b₀ : List Float) (c₀ : List ℕ) (k : Model) (p₀ : Place) (a : List ℕ) (b : List Float) (c : List ℕ) (p : Place) (n : ℕ) : Type 0 where
+  pub strides : n ≡ stridesFrom (holding k p₀) ts
+  pub held : holding k p ≡ satelliteFrom (holding k p₀) ts
+  pub refusals : a ≡ over (refusalsOf (rowsFrom (holding k p₀) ts)) a₀
+  pub states : b ≡ over (statesOf (rowsFrom (holding k p₀) ts)) b₀
+  pub rounds : c ≡ over (roundsOf (rowsFrom (holding k p₀) ts)) c₀
+
+pub filling-done : {ts : List ℤ} {a₀ : List ℕ} {b₀ : List Float} {c₀ : List ℕ} {k : Model} {p₀ : Place} {a : List ℕ} {b : List Float} {c : List ℕ} {p : Place} {n i : ℕ}
+    → Filling ts a₀ b₀ c₀ k p₀ a b c p n i → length ts ≤ i → Done ts a₀ b₀ c₀ k p₀ a b c p n
+filling-done {ts} {a₀} {b₀} {c₀} {k} {p₀} {a} {b} {c} {p} {n} {i} f h =
+    let e : take i ts ≡ ts = all-times ts i (f .upto) h in
+    record {
+      strides = f .strides ∙ ap (stridesFrom (holding k p₀)) e;
+      held = f .held ∙ ap (satelliteFrom (holding k p₀)) e;
+      refusals = f .refusals ∙ ap (λ l. over (refusalsOf (rowsFrom (holding k p₀) l)) a₀) e;
+      states = f .states ∙ ap (λ l. over (statesOf (rowsFrom (holding k p₀) l)) b₀) e;
+      rounds = f .rounds ∙ ap (λ l. over (roundsOf (rowsFrom (holding k p₀) l)) c₀) e;
+    }

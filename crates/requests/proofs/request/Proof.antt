@@ -1,0 +1,7 @@
+use borrow.Author.Needs.{needs}
+use Rattle.requests.specs.Request.{answered}
+use Rattle.requests.proofs.request.Statement.{statement}
+use Rattle.requests.proofs.request.Tie as tie
+
+pub request-spec : {M : Type 1} → statement M
+request-spec = tie.close (tie.spec (λ c κs. search needs) (λ c. cc))

@@ -1,0 +1,206 @@
+// Requests for position and velocity: one time, or a list of times, put to any satellite. Of the
+// satellite only the saved position changes. specs/Demand3 has the claim about whole sequences.
+ghost use mathlib.Core.Path.{_≡_};
+ghost use Prim.Native.Nat.{_+_, _*_, _≤_};
+ghost use lib.ListN.{length};
+ghost use lib.Seq.{sets};
+ghost use Rattle.requests.specs.Request as Q;
+ghost use Rattle.requests.specs.Lists as L;
+use instant::Microseconds;
+use instant::Strides;
+use opening::opening::Satellite;
+use resonance::place::Advance;
+use resonance::place::Place;
+use resonance::time::in_range;
+use resonance::time::side_of;
+use resonance::time::stride_need;
+use satellite::Model;
+use sgp4::Row;
+use sgp4::integrator_of;
+use sgp4::refused_row;
+use sgp4::row_at;
+
+// What a time gives at a saved position, and what it makes of that.
+pub struct Asked {
+    pub row: Row,
+    pub strides: Strides,
+    pub place: Place,
+}
+
+// A single request's answer, with the satellite to be handed to the next.
+pub struct Answered {
+    pub row: Row,
+    pub strides: Strides,
+    pub satellite: Satellite,
+}
+
+// A list's refusal number (0 when answered) and all its strides, with the satellite to be handed to
+// the next.
+pub struct ListAnswer {
+    pub refusal: u8,
+    pub strides: Strides,
+    pub satellite: Satellite,
+}
+
+struct Filled {
+    strides: Strides,
+    place: Place,
+}
+
+fn reached(model: Model, place: Place, t: Microseconds) -> Advance
+    ensures { λ r. ⌜ r ≡ Q.reached model place (t .0) ⌝ }
+{
+    let i = integrator_of(model);
+    place.advance(i, side_of(t), stride_need(i, t))
+}
+
+fn ask(model: Model, place: Place, t: Microseconds) -> Asked
+    ensures { λ r. ⌜ r ≡ Q.asked model place (t .0) ⌝ }
+{
+    if in_range(t) {
+        let a = reached(model, place, t);
+        let strides = a.strides;
+        let reached = a.place;
+        let row = row_at(model, reached, t);
+        return Asked {
+            row,
+            strides,
+            place: reached,
+        };
+    }
+    let row = refused_row(9);
+    Asked {
+        row,
+        strides: Strides(0),
+        place,
+    }
+}
+
+// The row of one time in microseconds since the epoch.
+pub fn request(satellite: Satellite, time: Microseconds) -> Answered
+    ensures { λ r. ⌜ r ≡ Q.answered satellite (time .0) ⌝ }
+{
+    let model = satellite.model;
+    let place = satellite.place;
+    let a = ask(model, place, time);
+    let row = a.row;
+    let strides = a.strides;
+    let saved = a.place;
+    let satellite = Satellite {
+        model,
+        place: saved,
+    };
+    Answered {
+        row,
+        strides,
+        satellite,
+    }
+}
+
+// A row's position and velocity, at an index of a room.
+fn put_state(states: &mut [f64], at: usize, row: Row)
+    requires { ⌜ at + 6 ≤ length (now states) ⌝ }
+    ensures { λ _. ⌜ now (states .exit) ≡ sets (now (states .entry)) at (L.stateOf row) ⌝ }
+{
+    states[at] = row.x;
+    states[at + 1] = row.y;
+    states[at + 2] = row.z;
+    states[at + 3] = row.vx;
+    states[at + 4] = row.vy;
+    states[at + 5] = row.vz;
+}
+
+// A row for each time, in rooms that are long enough. The model does not change: the loop carries
+// the saved position alone.
+fn fill(
+    model: Model,
+    place: Place,
+    times: &[i64],
+    refusals: &mut [u8],
+    states: &mut [f64],
+    rounds: &mut [u8],
+) -> Filled
+    requires { ⌜ length (now times) ≤ 1024 ⌝ }
+    requires { ⌜ length (now times) ≤ length (now refusals) ⌝ }
+    requires { ⌜ 6 * length (now times) ≤ length (now states) ⌝ }
+    requires { ⌜ length (now times) ≤ length (now rounds) ⌝ }
+    ensures { λ r. ⌜ r .strides .0 ≡ L.stridesFrom (record { model = model; place = place }) (now (times .entry)) ⌝ }
+    ensures { λ r. ⌜ _≡_ {A = Satellite} (record { model = model; place = r .place }) (L.satelliteFrom (record { model = model; place = place }) (now (times .entry))) ⌝ }
+    ensures { λ r. ⌜ now (refusals .exit) ≡ L.over (L.refusalsOf (L.rowsFrom (record { model = model; place = place }) (now (times .entry)))) (now (refusals .entry)) ⌝ }
+    ensures { λ r. ⌜ now (states .exit) ≡ L.over (L.statesOf (L.rowsFrom (record { model = model; place = place }) (now (times .entry)))) (now (states .entry)) ⌝ }
+    ensures { λ r. ⌜ now (rounds .exit) ≡ L.over (L.roundsOf (L.rowsFrom (record { model = model; place = place }) (now (times .entry)))) (now (rounds .entry)) ⌝ }
+{
+    let mut p = place;
+    let mut total: u32 = 0;
+    let mut i = 0;
+    while i < times.len() {
+        let t = times[i];
+        let a = ask(model, p, Microseconds(t));
+        let row = a.row;
+        refusals[i] = row.refusal;
+        put_state(states, 6 * i, row);
+        rounds[i] = row.rounds;
+        total += a.strides.0;
+        p = a.place;
+        i += 1;
+    }
+    Filled {
+        strides: Strides(total),
+        place: p,
+    }
+}
+
+// The number that a list is refused with, from the lengths of the times and the rooms; 0 where it is
+// not.
+fn list_refusal(n: usize, a: usize, b: usize, c: usize) -> u8
+    ensures { λ r. ⌜ r ≡ L.listRefusal n a b c ⌝ }
+{
+    if 1024 < n {
+        return 18;
+    }
+    if a < n {
+        return 17;
+    }
+    if b < 6 * n {
+        return 17;
+    }
+    if c < n {
+        return 17;
+    }
+    0
+}
+
+// A row for each time, in the list's order: one element of `refusals`, six of `states` (position,
+// then velocity) and one of `rounds` to a row. What lies past the last row stays.
+pub fn request_list(
+    satellite: Satellite,
+    times: &[i64],
+    refusals: &mut [u8],
+    states: &mut [f64],
+    rounds: &mut [u8],
+) -> ListAnswer
+    ensures { λ r. ⌜ L.ListPost satellite (now (times .entry)) (now (refusals .entry)) (now (states .entry)) (now (rounds .entry)) r (now (refusals .exit)) (now (states .exit)) (now (rounds .exit)) ⌝ }
+{
+    let model = satellite.model;
+    let place = satellite.place;
+    let refusal = list_refusal(times.len(), refusals.len(), states.len(), rounds.len());
+    if refusal != 0 {
+        return ListAnswer {
+            refusal,
+            strides: Strides(0),
+            satellite,
+        };
+    }
+    let f = fill(model, place, times, refusals, states, rounds);
+    let strides = f.strides;
+    let reached = f.place;
+    let satellite = Satellite {
+        model,
+        place: reached,
+    };
+    ListAnswer {
+        refusal,
+        strides,
+        satellite,
+    }
+}
