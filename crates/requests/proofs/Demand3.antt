@@ -18,7 +18,6 @@ use Rattle.resonance.specs.declared.place.Place.{Place}
 use Rattle.resonance.specs.Place.{sameSide, atEpoch, epochOf, advanceOf, rise}
 use Rattle.resonance.specs.Time.{sideOf, inRange, resonant, strideNeed, wholeStrides}
 use Rattle.resonance.proofs.Iterates.{position, position-zero, serves, advanced-position, strides-position}
-use Rattle.sgp4.specs.declared.Row.{Row}
 use Rattle.sgp4.specs.Sgp4.{noIntegrator, integratorBy, integratorOf}
 use Rattle.sgp4.specs.Row.{rowAt}
 use Rattle.tle.specs.declared.Record.{Record}
@@ -28,7 +27,6 @@ use Rattle.opening.specs.declared.opening.Satellite.{Satellite}
 use Rattle.opening.specs.declared.opening.Opening.the-variants as opening
 use Rattle.opening.specs.Opening.{epochPlace, newly, openOf}
 use Rattle.opening.proofs.Made.{made}
-use Rattle.requests.specs.declared.Asked.{Asked}
 use Rattle.requests.specs.Request.{reached, choose, inside, outside, asked, answered}
 use Rattle.requests.specs.Lists.{rowsFrom, stridesFrom, satelliteFrom}
 use Rattle.requests.specs.Demand3.{Request, One, Many, Outcome, outcome, rowTimes, run, times, sum, reported, Last, none, after, countIn, countOf, lastOf, countsOf, lastsOf, counted, keepIf, ranged, Outward, farthest, rowAlone, stridesAlone, NoMore, Demand3}

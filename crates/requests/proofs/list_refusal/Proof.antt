@@ -12,9 +12,6 @@ returns-2 : tie.Need-returns-2
 unfolding listRefusal
 returns-2 c = simp (le-ltb _ _ (c .before .if1 .left), lt-ltb _ _ (c .if2 .taken))
 
-mul-if3 : tie.Need-mul-if3
-mul-if3 c = search needs
-
 returns-3 : tie.Need-returns-3
 unfolding listRefusal
 returns-3 c = simp (le-ltb _ _ (c .before .before .if1 .left), le-ltb _ _ (c .before .if2 .left), lt-ltb _ _ (c .if3 .taken))
@@ -28,4 +25,5 @@ unfolding listRefusal
 returns-5 c = simp (le-ltb _ _ (c .before .before .before .if1 .left), le-ltb _ _ (c .before .before .if2 .left), le-ltb _ _ (c .before .if3 .left), le-ltb _ _ (c .if4 .left))
 
 pub list-refusal-spec : {M : Type 1} → statement M
-list-refusal-spec = tie.close (tie.spec returns returns-2 mul-if3 returns-3 returns-4 returns-5)
+list-refusal-spec = tie.close (tie.spec
+    returns returns-2 (λ c. search needs) returns-3 returns-4 returns-5)
