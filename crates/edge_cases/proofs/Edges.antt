@@ -1,15 +1,25 @@
 -- Document 01, "Cases at the edges": every case marked P holds, in one statement over the list of them.
-use mathlib.Core.Path.{refl}
+use mathlib.Core.Path.{_≡_, refl}
+use mathlib.Core.Bool.{true}
+use mathlib.Core.List.{List, [], _∷_, _++_, map}
 use Rattle.instant.specs.Calendar.{daysIn, daysBefore, epochMicros, lastDay, dayInRange}
 use Rattle.tle.specs.Layout.{agreed}
 use Rattle.tle.specs.Number.{digitOf, valueOn, sum}
 use Rattle.tle.specs.Refusals.{valuesOf}
 use Rattle.tle.specs.Read.{verdictOf, numberAt, pairOf, yearOf, dayAt, motionAt, degreesAt, fieldsOf, formOf, rangesOf, readOf}
-use Rattle.edge_cases.specs.Cases.{outcome, Claim, Every, edges}
+use Rattle.tle.specs.declared.Record.{Record}
+use Rattle.resonance.specs.Time.{resonant}
+use Rattle.opening.specs.declared.opening.Satellite.{Satellite}
+use Rattle.opening.specs.declared.opening.Opening.the-variants.{Opened}
+use Rattle.opening.specs.Opening.{openOf}
+use Rattle.sgp4.specs.Sgp4.{integratorOf}
+use Rattle.requests.specs.Edges as E
+use Rattle.requests.proofs.Edges as R
+use Rattle.edge_cases.specs.Cases.{Case, strides, outcome, Claim, Every, lines, edges}
 
-pub edges-hold : Every Claim edges
-unfolding Every Claim outcome edges readOf formOf pairOf verdictOf agreed sum digitOf valueOn numberAt fieldsOf rangesOf yearOf dayAt motionAt degreesAt dayInRange lastDay valuesOf epochMicros daysBefore daysIn
-edges-hold = (
+lines-hold : Every Claim lines
+unfolding Every Claim outcome lines readOf formOf pairOf verdictOf agreed sum digitOf valueOn numberAt fieldsOf rangesOf yearOf dayAt motionAt degreesAt dayInRange lastDay valuesOf epochMicros daysBefore daysIn
+lines-hold = (
   (refl, refl),
   (
     (refl, refl),
@@ -49,3 +59,20 @@ edges-hold = (
     ),
   ),
 )
+
+-- what holds of every newly opened resonant satellite, case by case
+strides-hold : (es : List E.Edge)
+    → ((r : Record) (s : Satellite) → openOf r ≡ Opened s → resonant (integratorOf (s .model) .resonance) ≡ true → E.Each s es)
+    → Every Claim (map strides es)
+unfolding Every Claim E.Each
+strides-hold [] f = tt
+strides-hold (e ∷ es) f = ((λ r s o h. (f r s o h .0, f r s o h .1)), strides-hold es (λ r s o h. f r s o h .2))
+
+both : (xs ys : List Case) → Every Claim xs → Every Claim ys → Every Claim (xs ++ ys)
+unfolding Every
+both [] ys p q = q
+both (x ∷ xs) ys p q = (p .0, both xs ys (p .1) q)
+
+pub edges-hold : Every Claim edges
+unfolding edges
+edges-hold = both lines (map strides E.edges) lines-hold (strides-hold E.edges R.edges-hold)

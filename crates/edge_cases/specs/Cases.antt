@@ -1,7 +1,8 @@
 -- Document 01, "Cases at the edges": the cases marked P as data, what each claims, and the list of them.
 use Prim.Native.Nat.{ℕ, _%_}
 use mathlib.Core.Path.{_≡_}
-use mathlib.Core.List.{List, [], _∷_}
+use mathlib.Core.Bool.{true}
+use mathlib.Core.List.{List, [], _∷_, _++_, map}
 use lib.ListN.{take}
 use Rattle.instant.specs.Calendar.{dayMicros, epochMicros}
 use Rattle.tle.specs.Layout.{bytes}
@@ -12,6 +13,13 @@ use Rattle.tle.specs.declared.Field.the-variants.{Day, Inclination, Node}
 use Rattle.tle.specs.declared.Record as tle
 use Rattle.tle.specs.declared.Reading.{Reading}
 use Rattle.tle.specs.declared.Reading.the-variants.{Record, Refused}
+use Rattle.resonance.specs.Time.{resonant}
+use Rattle.opening.specs.declared.opening.Satellite.{Satellite}
+use Rattle.opening.specs.declared.opening.Opening.the-variants.{Opened}
+use Rattle.opening.specs.Opening.{openOf}
+use Rattle.sgp4.specs.Sgp4.{integratorOf}
+use Rattle.requests.specs.Demand3.{One, reported}
+use Rattle.requests.specs.Edges as E
 
 pub record Pair : Type 0 where
   pub line1 : List ℕ
@@ -26,6 +34,8 @@ pub data Case : Type 0 where
   reads : Pair → (tle.Record → ℕ) → ℕ → Case
   -- a pair that is refused, the number, and what comes back with it
   refuses : Pair → ℕ → Values → Case
+  -- single requests put one after the other to a newly opened resonant satellite: which are refused with 9, and the strides that each reports
+  strides : E.Edge → Case
 
 -- a refusal by its number and what comes back with it; a record is none
 pub data Outcome : Type 0 where
@@ -43,6 +53,9 @@ Claim (day-micros year day micros) = epochMicros year day % dayMicros ≡ micros
 Claim (reads p part value) =
     (readOf (p .line1) (p .line2) ≡ Record (fieldsOf (p .line1) (p .line2))) × (part (fieldsOf (p .line1) (p .line2)) ≡ value)
 Claim (refuses p number values) = outcome (readOf (p .line1) (p .line2)) ≡ refused number values
+Claim (strides e) =
+    (r : tle.Record) (s : Satellite) → openOf r ≡ Opened s → resonant (integratorOf (s .model) .resonance) ≡ true
+    → (map (E.refusedNine s) (e .times) ≡ e .nine) × (reported s (map One (e .times)) ≡ e .strides)
 
 -- a claim holds of every element of a list
 unfoldable pub Every : {A : Type 0} → (A → Type 0) → List A → Type 0
@@ -63,9 +76,9 @@ with1 l = record { line1 = l; line2 = line2 }
 abbrev pub with2 : List ℕ → Pair
 with2 l = record { line1 = line1; line2 = l }
 
--- the cases, in document 01's order
-unfoldable pub edges : List Case
-edges =
+-- the cases of lines, years, days and checksums, in document 01's order
+unfoldable pub lines : List Case
+lines =
     -- line sums above are 133 and 217, digits 3 and 7
     line-sum line1 133 3
     ∷ line-sum line2 217 7
@@ -88,3 +101,7 @@ edges =
     -- day 000.99999999 is 6
     ∷ refuses (with1 (bytes "1 00005U 58002B   00000.99999999  .00000023  00000-0  28098-4 0  4757")) 6 (field Day)
     ∷ []
+
+-- all cases marked P: those of lines, and those that count strides (specs/Edges of requests)
+unfoldable pub edges : List Case
+edges = lines ++ map strides E.edges
