@@ -13,7 +13,7 @@ use crate::words::find;
 use crate::words::read_number;
 
 // How many lines were compared, how many differ, and where the first of those begins and ends.
-pub struct Tally {
+pub(crate) struct Tally {
     pub lines: u64,
     pub differ: u64,
     pub from: usize,
@@ -145,7 +145,7 @@ fn counted(t: Tally, is_equal: bool, from: usize, to: usize) -> Tally {
 }
 
 // The lines of the function `which`.
-pub fn count_lines(input: &[u8], which: u8) -> Tally {
+pub(crate) fn count_lines(input: &[u8], which: u8) -> Tally {
     let mut t = Tally {
         lines: 0,
         differ: 0,

@@ -2,13 +2,13 @@
 ghost use Prim.Native.Nat.{_≤_};
 ghost use lib.ListN.{length};
 
-pub struct Number {
+pub(crate) struct Number {
     pub value: f64,
     pub is_read: bool,
 }
 
 // Where the first `mark` at or after `at` stands, or the end.
-pub fn find(text: &[u8], at: usize, mark: u8) -> usize
+pub(crate) fn find(text: &[u8], at: usize, mark: u8) -> usize
     requires { ⌜ at ≤ length (now text) ⌝ }
     ensures { λ r. ⌜ (at ≤ r) × (r ≤ length (now (text .entry))) ⌝ }
 {
@@ -22,7 +22,7 @@ pub fn find(text: &[u8], at: usize, mark: u8) -> usize
     i
 }
 
-pub fn begins(text: &[u8], word: &[u8]) -> bool {
+pub(crate) fn begins(text: &[u8], word: &[u8]) -> bool {
     let n = word.len();
     if text.len() < n {
         return false;
@@ -84,7 +84,7 @@ fn unread() -> Number {
 }
 
 // `nan`, or 16 hex digits that are no NaN's.
-pub fn read_number(word: &[u8]) -> Number {
+pub(crate) fn read_number(word: &[u8]) -> Number {
     if check::same(word, b"nan") {
         return Number {
             value: 0.0 / 0.0,
