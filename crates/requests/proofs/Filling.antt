@@ -77,19 +77,19 @@ states-snoc : (rs : List Row) (r : Row) → statesOf (rs ++ (r ∷ [])) ≡ stat
 states-snoc [] r = refl
 states-snoc (q ∷ rs) r = ap (λ l. stateOf q ++ l) (states-snoc rs r)
 
-length-rows : (s : Satellite) (ts : List ℤ) → length (rowsFrom s ts) ≡ length ts
+pub length-rows : (s : Satellite) (ts : List ℤ) → length (rowsFrom s ts) ≡ length ts
 length-rows s [] = refl
 length-rows s (t ∷ ts) = ap suc (length-rows (answered s t .satellite) ts)
 
-length-refusals : (rs : List Row) → length (refusalsOf rs) ≡ length rs
+pub length-refusals : (rs : List Row) → length (refusalsOf rs) ≡ length rs
 length-refusals [] = refl
 length-refusals (r ∷ rs) = ap suc (length-refusals rs)
 
-length-rounds : (rs : List Row) → length (roundsOf rs) ≡ length rs
+pub length-rounds : (rs : List Row) → length (roundsOf rs) ≡ length rs
 length-rounds [] = refl
 length-rounds (r ∷ rs) = ap suc (length-rounds rs)
 
-length-states : (rs : List Row) → length (statesOf rs) ≡ 6 * length rs
+pub length-states : (rs : List Row) → length (statesOf rs) ≡ 6 * length rs
 length-states [] = refl
 length-states (r ∷ rs) = omega (arith, length-states rs)
 

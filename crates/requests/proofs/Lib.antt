@@ -1,6 +1,6 @@
 -- The theorem on whole sequences of requests, its worked cases, and the laws that the proofs of the functions share.
 mod Answers
-mod Filling
+pub mod Filling
 mod Listing
 pub mod Demand3
 pub mod Edges

@@ -1,0 +1,4 @@
+-- Laws that the proofs of the functions share.
+mod Rooms
+mod Running
+mod Posts

@@ -1,0 +1,165 @@
+-- Rows put after those that a room holds already.
+use mathlib.Core.Path.{_≡_, refl, sym, ap, _∙_}
+use mathlib.Core.List.{List, [], _∷_, _++_, append-assoc, append-nil}
+use Prim.Native.Nat.{ℕ, zero, suc, _+_, _-_, _*_, _/_, _≤_, _<_}
+use native.Mathlib.Numerals.{add-one}
+use native.Mathlib.Omega.{arith}
+use lib.ListN.{length, take, drop, set, getD, take-append-drop, length-drop}
+use lib.Seq.{set-split, sets, sets-eq, drop-drop, drop-length, take-all, take-suc, take-length}
+use lib.Dec.{leb}
+use mathlib.Core.Bool.{Bool, true, false, not}
+use borrow.Author.Tests.{le-leb, lt-leb, ne-eqb, eq-eqb}
+use borrow.Rule.Slice.PartMut.{midOf, postOf, putMid, post-is}
+use lib.IntN.{ℤ}
+use lib.Ieee.{Float}
+use Rattle.sgp4.specs.declared.Row.{Row}
+use Rattle.opening.specs.declared.opening.Satellite.{Satellite}
+use Rattle.requests.specs.declared.Answered.{Answered}
+use Rattle.requests.specs.declared.ListAnswer.{ListAnswer}
+use Rattle.requests.specs.Request.{answered}
+use Rattle.requests.specs.Lists.{stateOf, statesOf, refusalsOf, roundsOf, rowsFrom, listRefusal, listTimes, listed, ListPost, over}
+use Rattle.requests.specs.Demand3.{One, Many, rowTimes}
+use Rattle.script.specs.Script.{taken, needed, roomFor, Step}
+
+module _ {A : Type 0} where
+  pub set-part : (l : List A) (n : ℕ) (v : A) → n < length l → set l n v ≡ take n l ++ over (v ∷ []) (drop n l)
+  set-part l n v h = set-split l n v h ∙ ap (λ z. take n l ++ (v ∷ z)) (sym (drop-drop 1 n l ∙ ap (λ k. drop k l) (add-one n)))
+
+  pub sets-part : (vs l : List A) (n : ℕ) → n + length vs ≤ length l → sets l n vs ≡ take n l ++ over vs (drop n l)
+  sets-part vs l n h =
+      sets-eq vs l n h ∙ append-assoc (take n l) vs (drop (n + length vs) l) ∙ ap (λ z. take n l ++ (vs ++ z)) (sym (drop-drop (length vs) n l))
+
+pub one-step : (s : Satellite) (t : ℤ) (rows : ℕ) (a : List ℕ) (b : List Float) (c : List ℕ) (r : Answered) (a′ : List ℕ) (b′ : List Float) (c′ : List ℕ)
+    → r ≡ answered s t → rows < length a → 6 * rows + 6 ≤ length b → rows < length c
+    → a′ ≡ set a rows (r .row .refusal) → b′ ≡ sets b (6 * rows) (stateOf (r .row)) → c′ ≡ set c rows (r .row .rounds)
+    → Step s (One t) rows a b c (r .satellite) (r .strides .0) 1 a′ b′ c′
+one-step s t rows a b c r a′ b′ c′ e ha hb hc ea eb ec = record {
+  satellite = ap (λ z. z .satellite) e;
+  strides = ap (λ z. z .strides .0) e;
+  added = refl;
+  refusals = ea ∙ set-part a rows (r .row .refusal) ha ∙ ap (λ z. take rows a ++ over (z .row .refusal ∷ []) (drop rows a)) e;
+  states = eb ∙ sets-part (stateOf (r .row)) b (6 * rows) hb ∙ ap (λ z. take (6 * rows) b ++ over (stateOf (z .row)) (drop (6 * rows) b)) e;
+  rounds = ec ∙ set-part c rows (r .row .rounds) hc ∙ ap (λ z. take rows c ++ over (z .row .rounds ∷ []) (drop rows c)) e;
+}
+
+pub taken-zero : (n : ℕ) → n ≡ 0 → 1 ≡ taken n
+unfolding taken
+taken-zero n h = sym (ap taken h)
+
+pub taken-more : (n : ℕ) → (n ≡ 0 → ⊥) → n - 1 ≡ taken n
+unfolding taken
+taken-more zero h = absurd (h refl)
+  where
+    absurd : {B : Type 0} → ⊥ → B
+    absurd = elim [ ]
+taken-more (suc n) h = omega arith
+
+-- ── the times that requests take ──
+
+pub needed-snoc : (xs : List ℕ) (n : ℕ) → needed (xs ++ (n ∷ [])) ≡ needed xs + taken n
+unfolding needed
+needed-snoc [] n = omega arith
+needed-snoc (x ∷ xs) n = omega (arith, needed-snoc xs n)
+
+needed-append : (xs ys : List ℕ) → needed (xs ++ ys) ≡ needed xs + needed ys
+unfolding needed
+needed-append [] ys = omega arith
+needed-append (x ∷ xs) ys = omega (arith, needed-append xs ys)
+
+needed-split : (l : List ℕ) (i : ℕ) → needed l ≡ needed (take i l) + needed (drop i l)
+needed-split l i = ap needed (sym (take-append-drop i l)) ∙ needed-append (take i l) (drop i l)
+
+needed-next : (l : List ℕ) (i d : ℕ) → i < length l → needed (take (i + 1) l) ≡ needed (take i l) + taken (getD l i d)
+needed-next l i d h = ap (λ k. needed (take k l)) (add-one i) ∙ ap needed (take-suc l i d h) ∙ needed-snoc (take i l) (getD l i d)
+
+pub fits-none : (l : List ℕ) (room : ℕ) → needed (take 0 l) + room ≡ room
+unfolding needed
+fits-none l room = omega arith
+
+pub fits-more : (l : List ℕ) (room left i d n : ℕ) → needed (take i l) + left ≡ room → i < length l → n ≡ taken (getD l i d) → n ≤ left → needed (take (i + 1) l) + (left - n) ≡ room
+fits-more l room left i d n e h hn hl = omega (arith, needed-next l i d h)
+
+pub fits-not : (l : List ℕ) (room left i d n : ℕ) → needed (take i l) + left ≡ room → i < length l → n ≡ taken (getD l i d) → left < n → false ≡ leb (needed l) room
+fits-not l room left i d n e h hn hl = sym (lt-leb (needed l) room (omega (arith, needed-next l i d h, needed-split l (i + 1))))
+
+pub fits-all : (l : List ℕ) (room left i : ℕ) → needed (take i l) + left ≡ room → i ≤ length l → length l ≤ i → true ≡ leb (needed l) room
+fits-all l room left i e h k =
+    let z : i ≡ length l = omega arith in
+    let w : take i l ≡ l = ap (λ j. take j l) z ∙ take-length l in
+    sym (le-leb (needed l) room (omega (arith, ap needed w)))
+
+-- ── a list, in what is left of the rooms ──
+
+module _ {A : Type 0} where
+  -- what is lent from n on is all that lies there
+  rest : (l : List A) (n : ℕ) → midOf n (length l - n) l ≡ drop n l
+  rest l n = let h : length (drop n l) ≤ length l - n = omega (arith, length-drop n l) in take-all (length l - n) (drop n l) h
+
+  -- and is put back after what lies before
+  back : (l p : List A) (n : ℕ) → n ≤ length l → putMid n (length l - n) l p ≡ take n l ++ p
+  back l p n h =
+      ap (λ z. take n l ++ (p ++ z)) (post-is n (length l) l h ∙ drop-length l) ∙ ap (λ z. take n l ++ z) (append-nil p)
+
+pub many-step : (s : Satellite) (ts : List ℤ) (rows : ℕ) (a : List ℕ) (b : List Float) (c : List ℕ) (r : ListAnswer) (a″ : List ℕ) (b″ : List Float) (c″ : List ℕ) (k : ℕ)
+    → rows ≤ length a → 6 * rows ≤ length b → rows ≤ length c
+    → ListPost s ts (midOf rows (length a - rows) a) (midOf (6 * rows) (length b - 6 * rows) b) (midOf rows (length c - rows) c) r a″ b″ c″
+    → (r .refusal ≡ listRefusal (length ts) (length a - rows) (length b - 6 * rows) (length c - rows) → k ≡ length (rowTimes (Many ts (length a - rows) (length b - 6 * rows) (length c - rows))))
+    → Step s (Many ts (length a - rows) (length b - 6 * rows) (length c - rows)) rows a b c (r .satellite) (r .strides .0) k
+    (putMid rows (length a - rows) a a″) (putMid (6 * rows) (length b - 6 * rows) b b″) (putMid rows (length c - rows) c c″)
+many-step s ts rows a b c r a″ b″ c″ k ha hb hc p hk =
+    let na : length (midOf rows (length a - rows) a) ≡ length a - rows = ap length (rest a rows) ∙ length-drop rows a in
+    let nb : length (midOf (6 * rows) (length b - 6 * rows) b) ≡ length b - 6 * rows = ap length (rest b (6 * rows)) ∙ length-drop (6 * rows) b in
+    let nc : length (midOf rows (length c - rows) c) ≡ length c - rows = ap length (rest c rows) ∙ length-drop rows c in
+    let us : (i j k : ℕ) → List ℤ = listTimes ts in
+    let added = rowsFrom s (listTimes ts (length a - rows) (length b - 6 * rows) (length c - rows)) in
+    let answer : r ≡ listed s ts (length a - rows) (length b - 6 * rows) (length c - rows) =
+    p .answer ∙ ap (λ i. listed s ts i (length (midOf (6 * rows) (length b - 6 * rows) b)) (length (midOf rows (length c - rows) c))) na
+    ∙ ap (λ i. listed s ts (length a - rows) i (length (midOf rows (length c - rows) c))) nb ∙ ap (λ i. listed s ts (length a - rows) (length b - 6 * rows) i) nc in
+    let same : listTimes ts (length (midOf rows (length a - rows) a)) (length (midOf (6 * rows) (length b - 6 * rows) b)) (length (midOf rows (length c - rows) c))
+    ≡ listTimes ts (length a - rows) (length b - 6 * rows) (length c - rows) =
+    ap (λ i. us i (length (midOf (6 * rows) (length b - 6 * rows) b)) (length (midOf rows (length c - rows) c))) na
+    ∙ ap (λ i. us (length a - rows) i (length (midOf rows (length c - rows) c))) nb ∙ ap (λ i. us (length a - rows) (length b - 6 * rows) i) nc in
+    record {
+      satellite = ap (λ z. z .satellite) answer;
+      strides = ap (λ z. z .strides .0) answer;
+      added = hk (ap (λ z. z .refusal) answer);
+      refusals = back a a″ rows ha ∙ ap (λ z. take rows a ++ z) (p .refusals ∙ ap (λ z. over (refusalsOf (rowsFrom s z)) (midOf rows (length a - rows) a)) same ∙ ap (over (refusalsOf added)) (rest a rows));
+      states = back b b″ (6 * rows) hb ∙ ap (λ z. take (6 * rows) b ++ z) (p .states ∙ ap (λ z. over (statesOf (rowsFrom s z)) (midOf (6 * rows) (length b - 6 * rows) b)) same ∙ ap (over (statesOf added)) (rest b (6 * rows)));
+      rounds = back c c″ rows hc ∙ ap (λ z. take rows c ++ z) (p .rounds ∙ ap (λ z. over (roundsOf (rowsFrom s z)) (midOf rows (length c - rows) c)) same ∙ ap (over (roundsOf added)) (rest c rows));
+    }
+
+pub none-added : (ts : List ℤ) (i j k n : ℕ) → (n ≡ 0 → ⊥) → n ≡ listRefusal (length ts) i j k → 0 ≡ length (listTimes ts i j k)
+none-added ts i j k n h e = rw (ne-eqb (listRefusal (length ts) i j k) 0 (λ z. h (e ∙ z)))
+
+pub all-added : (ts : List ℤ) (i j k n : ℕ) → n ≡ 0 → n ≡ listRefusal (length ts) i j k → length ts ≡ length (listTimes ts i j k)
+all-added ts i j k n h e = rw (eq-eqb (listRefusal (length ts) i j k) 0 (sym e ∙ h))
+
+-- ── whether all have room ──
+
+pub said-no : (b : Bool) → not b ≡ true → b ≡ false
+said-no true h = sym h
+said-no false h = refl
+
+pub said-yes : (b : Bool) → not b ≡ false → b ≡ true
+said-yes true h = refl
+said-yes false h = sym h
+
+pub short-1 : (ns : List ℕ) (t a b c d : ℕ) → leb (needed ns) t ≡ false → false ≡ roomFor ns t a b c d
+unfolding roomFor
+short-1 ns t a b c d e = rw e
+
+pub short-2 : (ns : List ℕ) (t a b c d : ℕ) → leb (needed ns) t ≡ true → leb (needed ns) a ≡ false → false ≡ roomFor ns t a b c d
+unfolding roomFor
+short-2 ns t a b c d e1 e = rw (e1, e)
+
+pub short-3 : (ns : List ℕ) (t a b c d : ℕ) → leb (needed ns) t ≡ true → leb (needed ns) a ≡ true → leb (needed ns) (b / 6) ≡ false → false ≡ roomFor ns t a b c d
+unfolding roomFor
+short-3 ns t a b c d e1 e2 e = rw (e1, e2, e)
+
+pub short-4 : (ns : List ℕ) (t a b c d : ℕ) → leb (needed ns) t ≡ true → leb (needed ns) a ≡ true → leb (needed ns) (b / 6) ≡ true → leb (needed ns) c ≡ false → false ≡ roomFor ns t a b c d
+unfolding roomFor
+short-4 ns t a b c d e1 e2 e3 e = rw (e1, e2, e3, e)
+
+pub short-5 : (ns : List ℕ) (t a b c d : ℕ) → leb (needed ns) t ≡ true → leb (needed ns) a ≡ true → leb (needed ns) (b / 6) ≡ true → leb (needed ns) c ≡ true → leb (length ns) d ≡ roomFor ns t a b c d
+unfolding roomFor
+short-5 ns t a b c d e1 e2 e3 e4 = rw (e1, e2, e3, e4)

@@ -1,0 +1,93 @@
+-- A whole script of requests run from two lines, and what demand 3 says of the memory that it leaves: specs/Demand3 of `requests`, of running code. Definitions only.
+use Prim.Native.Nat.{ℕ, zero, suc, _+_, _-_, _*_, _/_}
+use mathlib.Core.Path.{_≡_}
+use mathlib.Core.Bool.{Bool, true, false, _&&_}
+use mathlib.Core.List.{List, [], _∷_, _++_, map}
+use lib.ListN.{length, take, drop, getD}
+use lib.Dec.{leb}
+use lib.IntN.{ℤ, pos}
+use lib.Ieee.{Float}
+use Rattle.resonance.specs.declared.place.Side.{Side}
+use Rattle.resonance.specs.Time.{wholeStrides}
+use Rattle.sgp4.specs.Sgp4.{integratorOf}
+use Rattle.opening.specs.declared.opening.Satellite.{Satellite}
+use Rattle.opening.specs.declared.opening.PairOpening.{PairOpening}
+use Rattle.opening.specs.declared.opening.PairOpening.the-variants as pair
+use Rattle.opening.specs.Opening.{openPairOf}
+use Rattle.script.specs.declared.Ran.{Ran}
+use Rattle.script.specs.declared.Ran.the-variants.{Done, Short, Closed}
+use Rattle.requests.specs.Lists.{refusalsOf, statesOf, roundsOf, over}
+use Rattle.sgp4.specs.declared.Row.{Row}
+use Rattle.requests.specs.Demand3.{Request, One, Many, Outcome, outcome, rowTimes, run, times, sum, reported, none, counted, ranged, Outward, farthest, rowAlone, stridesAlone, NoMore}
+
+-- ── the script ──
+
+-- a request is 0, one time, or n + 1, a list of n times; this many times it takes
+unfoldable pub taken : ℕ → ℕ
+taken zero = 1
+taken (suc n) = n
+
+unfoldable pub needed : List ℕ → ℕ
+needed [] = 0
+needed (n ∷ ns) = taken n + needed ns
+
+-- of the times that are left, and of rooms with a, b and c elements left
+abbrev pub requestOf : ℕ → List ℤ → ℕ → ℕ → ℕ → Request
+requestOf zero ts a b c = One (getD ts 0 (pos 0))
+requestOf (suc n) ts a b c = Many (take n ts) a b c
+
+-- the rows of each request follow those of the one before
+unfoldable pub script : List ℕ → List ℤ → ℕ → ℕ → ℕ → List Request
+script [] ts a b c = []
+script (n ∷ ns) ts a b c =
+    let r = requestOf n ts a b c in
+    let k = length (rowTimes r) in
+    r ∷ script ns (drop (taken n) ts) (a - k) (b - 6 * k) (c - k)
+
+-- whether the times suffice, and the rooms for a row of each time and for the strides of each request
+unfoldable pub roomFor : List ℕ → ℕ → ℕ → ℕ → ℕ → ℕ → Bool
+roomFor ns t a b c d = leb (needed ns) t && leb (needed ns) a && leb (needed ns) (b / 6) && leb (needed ns) c && leb (length ns) d
+
+-- ── what is left in memory ──
+
+abbrev pub rowsOf : List Outcome → List Row
+rowsOf [] = []
+rowsOf (o ∷ os) = o .rows ++ rowsOf os
+
+-- the request r put to s after `rows` rows: what it gives back, the rows that it adds, and the rooms a, b and c
+pub record Step (s : Satellite) (r : Request) (rows : ℕ) (a : List ℕ) (b : List Float) (c : List ℕ) (s′ : Satellite) (n k : ℕ) (a′ : List ℕ) (b′ : List Float) (c′ : List ℕ) : Type 0 where
+  pub satellite : s′ ≡ outcome s r .satellite
+  pub strides : n ≡ outcome s r .strides
+  pub added : k ≡ length (rowTimes r)
+  pub refusals : a′ ≡ take rows a ++ over (refusalsOf (outcome s r .rows)) (drop rows a)
+  pub states : b′ ≡ take (6 * rows) b ++ over (statesOf (outcome s r .rows)) (drop (6 * rows) b)
+  pub rounds : c′ ≡ take rows c ++ over (roundsOf (outcome s r .rows)) (drop rows c)
+
+-- the rooms a, b, c (rows) and d (strides) after the requests rs, put to s one after the other
+pub record Left (s : Satellite) (rs : List Request) (a : List ℕ) (b : List Float) (c : List ℕ) (d : List ℕ) (a′ : List ℕ) (b′ : List Float) (c′ : List ℕ) (d′ : List ℕ) : Type 0 where
+  pub refusals : a′ ≡ over (refusalsOf (rowsOf (run s rs))) a
+  pub states : b′ ≡ over (statesOf (rowsOf (run s rs))) b
+  pub rounds : c′ ≡ over (roundsOf (rowsOf (run s rs))) c
+  pub strides : d′ ≡ over (reported s rs) d
+
+-- demand 3 of that memory: s is the satellite newly opened
+pub record Demanded (s : Satellite) (rs : List Request) (a : List ℕ) (b : List Float) (c : List ℕ) (d : List ℕ) (a′ : List ℕ) (b′ : List Float) (c′ : List ℕ) (d′ : List ℕ) : Type 0 where
+  pub refusals : a′ ≡ over (refusalsOf (map (rowAlone s) (times rs))) a
+  pub states : b′ ≡ over (statesOf (map (rowAlone s) (times rs))) b
+  pub rounds : c′ ≡ over (roundsOf (map (rowAlone s) (times rs))) c
+  pub counts : d′ ≡ over (counted (integratorOf (s .model)) none rs) d
+  pub outward : (e : Side) → Outward e 0 (ranged (times rs)) → sum (take (length rs) d′) ≡ wholeStrides (integratorOf (s .model)) (farthest (ranged (times rs)))
+  pub noMore : NoMore (take (length rs) d′) (map (λ r. sum (map (stridesAlone s) (ranged (rowTimes r)))) rs)
+
+-- what a script answers: `Done`, `Short` (a room or the times too short: nothing is run) or `Closed` (the lines do not open)
+unfoldable pub ranOf : Bool → PairOpening → Ran
+ranOf false o = Short
+ranOf true (pair.Opened s) = Done
+ranOf true (pair.Unread why) = Closed
+ranOf true (pair.Refused why) = Closed
+
+-- the contract of `run_script`: the answer; nothing written unless it is `Done`; and then demand 3 of the memory, for the satellite that the lines open to
+pub record Post (line1 line2 : List ℕ) (ns : List ℕ) (ts : List ℤ) (a : List ℕ) (b : List Float) (c : List ℕ) (d : List ℕ) (r : Ran) (a′ : List ℕ) (b′ : List Float) (c′ : List ℕ) (d′ : List ℕ) : Type 0 where
+  pub answer : r ≡ ranOf (roomFor ns (length ts) (length a) (length b) (length c) (length d)) (openPairOf line1 line2)
+  pub unrun : (r ≡ Done → ⊥) → (a′ ≡ a) × (b′ ≡ b) × (c′ ≡ c) × (d′ ≡ d)
+  pub ran : (s : Satellite) → openPairOf line1 line2 ≡ pair.Opened s → r ≡ Done → Demanded s (script ns ts (length a) (length b) (length c)) a b c d a′ b′ c′ d′
