@@ -5,6 +5,7 @@ use native.Mathlib.Nat.{le-trans, le-of-eq, le-of-lt, le-antisymm, lt-of-not-le,
 use native.Mathlib.Omega.{arith}
 use mathlib.Core.Bool.{Bool, true, false, not, cond}
 use lib.Dec.{T, leb, ltb, leb→le, nleb→lt, ltb→lt, nltb→le, lit≤, lit<}
+use mir.Val.{boolByte}
 use Rattle.elementary.specs.Root.{isqrt, nearRoot}
 
 pub sq-mono : {a b : ℕ} → a ≤ b → a * a ≤ b * b
@@ -240,3 +241,30 @@ module _ (a c : ℕ) (lo : 4503599627370496 ≤ a) (hi : a ≤ 18014398509481982
       let e : c - 1 + 1 ≡ c = omega arith in
       let z : c * c ≡ (c - 1) * (c - 1) + 2 * (c - 1) + 1 = ap (λ (x : ℕ). x * x) (sym e) ∙ sq-suc (c - 1) in
       near-is (a * 4503599627370496) (c - 1) (inside .0) (inside .1) (omega arith, omega arith)
+
+  -- the neighbour that the remainder shows
+  pick : (up down : Bool) → (T up → lo26 c * lo26 c + 18014398509481984 + c < left a c * 67108864) → (T (not up) → left a c * 67108864 ≤ lo26 c * lo26 c + 18014398509481984 + c)
+      → (T down → left a c * 67108864 + c ≤ lo26 c * lo26 c + 18014398509481984) → (T (not down) → lo26 c * lo26 c + 18014398509481984 < left a c * 67108864 + c)
+      → 1 ≤ c → left a c * 67108864 ≤ lo26 c * lo26 c + 18014398509481984 + 3 * c → lo26 c * lo26 c + 18014398509481984 + 2 < left a c * 67108864 + 3 * c
+      → cond up (c + 1) (cond down (c - 1) c) ≡ nearRoot (a * 4503599627370496)
+  pick true down y n d m P f g = check-up f (y tt)
+  pick false true y n d m P f g = check-down P g (d tt)
+  pick false false y n d m P f g = check-same (n tt) (m tt)
+
+  pub check-neighbour : 1 ≤ c → left a c * 67108864 ≤ lo26 c * lo26 c + 18014398509481984 + 3 * c → lo26 c * lo26 c + 18014398509481984 + 2 < left a c * 67108864 + 3 * c
+      → cond (ltb (lo26 c * lo26 c + 18014398509481984 + c) (left a c * 67108864)) (c + 1) (cond (leb (left a c * 67108864 + c) (lo26 c * lo26 c + 18014398509481984)) (c - 1) c) ≡ nearRoot (a * 4503599627370496)
+  check-neighbour =
+      let v = lo26 c * lo26 c + 18014398509481984 in
+      let d = left a c * 67108864 in
+      pick (ltb (v + c) d) (leb (d + c) v) (ltb→lt (v + c) d) (nltb→le (v + c) d) (leb→le (d + c) v) (nleb→lt (d + c) v)
+
+-- ---- one up, one down, without a branch
+pub byte-le : (b : Bool) → boolByte b ≤ 1
+byte-le true = omega arith
+byte-le false = omega arith
+
+pub moved : (up down : Bool) (c : ℕ) → (T up → T down → ⊥) → c + boolByte up - boolByte down ≡ cond up (c + 1) (cond down (c - 1) c)
+moved true true c n = absurd (n tt tt)
+moved true false c n = omega arith
+moved false true c n = omega arith
+moved false false c n = omega arith

@@ -1,6 +1,6 @@
 // The cube root of a positive normal number by document 01's eight steps.
 ghost use mathlib.Core.Path.{_≡_};
-ghost use mathlib.Core.Bool.{not};
+ghost use mathlib.Core.Bool.{true, not};
 ghost use lib.Dec.{T};
 ghost use lib.Ieee.{isNan};
 ghost use Rattle.elementary.specs.Cube.{mant, power, stepOf, steps, cbrtNormal, normal, cbrtOf};
@@ -48,13 +48,18 @@ fn power_of_two(x: f64) -> f64
     f64::from_bits((682 + e / 3) * 4503599627370496)
 }
 
+// A step that gives back what it was given ends them: so would all later ones.
 fn eight_steps(m: f64) -> f64
     ensures { λ r. ⌜ r ≡ steps 8 m ⌝ }
 {
     let mut y = 1.0 + (m - 1.0) / 7.0;
     let mut i = 0usize;
     while i < 8 {
-        y = step(m, y);
+        let z = step(m, y);
+        if same(y, z) {
+            return y;
+        }
+        y = z;
         i += 1;
     }
     y
@@ -64,4 +69,16 @@ fn step(m: f64, y: f64) -> f64
     ensures { λ r. ⌜ r ≡ stepOf m y ⌝ }
 {
     (y + y + m / (y * y)) / 3.0
+}
+
+// Whether two positive numbers are the same; false for any other two.
+fn same(y: f64, z: f64) -> bool
+    ensures { λ r. ⌜ (r ≡ true → y ≡ z) ⌝ }
+{
+    if y > 0.0 {
+        if z > 0.0 {
+            return f64::to_bits(y) == f64::to_bits(z);
+        }
+    }
+    false
 }

@@ -1,7 +1,9 @@
 // The square root: the nearest f64. A candidate in floating point, of which nothing is proved but
 // its length, and then an exact check of it in whole numbers that all fit 64 bits.
 ghost use mathlib.Core.Path.{_≡_};
-ghost use Prim.Native.Nat.{_+_, _*_, _/_, _%_, _^_, _≤_, _<_};
+ghost use mathlib.Core.Bool.{cond};
+ghost use lib.Dec.{leb, ltb};
+ghost use Prim.Native.Nat.{_+_, _-_, _*_, _/_, _%_, _^_, _≤_, _<_};
 ghost use Rattle.elementary.specs.Root.{nearRoot, sqrtOf};
 
 pub fn sqrt(x: f64) -> f64
@@ -40,23 +42,39 @@ fn packed(m: u64, k: u64) -> u64
 }
 
 // A number of 53 digits near the root of m * 2^(52 + odd), or any other: `verified` checks it, so
-// that only the speed turns on it. A polynomial that is within 7 parts in 100000 of the root on 1
-// to 4, and two steps of Heron's.
+// that only the speed turns on it. v is m in 1 to 2; a polynomial that is within 5 parts in 10^9 of
+// its root there, in an order that keeps the chain of dependent steps short, times the root of 2
+// where the number is twice v, and one step of Heron's.
 fn candidate(m: u64, odd: u64) -> u64
     requires { ⌜ (m < 9007199254740992) × (odd < 2) ⌝ }
     ensures { λ r. ⌜ (4503599627370496 ≤ r) × (r < 9007199254740992) ⌝ }
 {
-    let v = f64::from_bits((1022 + odd) * 4503599627370496 + m);
+    let v = f64::from_bits(1022 * 4503599627370496 + m);
+    let w = f64::from_bits((1022 + odd) * 4503599627370496 + m);
     let v2 = v * v;
-    let mut y = (0.34354 + 0.87061227 * v)
-        + v2 * (0.07726019 * v - 0.28001561)
-        + (v2 * v2) * (0.00079573815 * v - 0.0121293);
-    y = (y + v / y) * 0.5;
-    y = (y + v / y) * 0.5;
+    let v4 = v2 * v2;
+    let low = (0.2340675537284 + 1.315588972133 * v) + v2 * (0.8887049446385 * v - 1.070187068091);
+    let high = (0.2312185294155 * v - 0.5450180345715)
+        + v2 * (0.0104026638843 * v - 0.0640254474539)
+        - v4 * 0.0007521091841983;
+    let scale = if odd == 0 { 1.0 } else { 1.4142135623730951 };
+    let y = scale * low + (scale * v4) * high;
+    let y = (y + w / y) * 0.5;
     if y > 0.0 {
         return f64::to_bits(y) % 4503599627370496 + 4503599627370496;
     }
     4503599627370496
+}
+
+// c + 1 where d is above v by more than c, c - 1 where it is below by c or more, else c. One of four
+// candidates has to be moved, at no time that can be foreseen: so no branch.
+fn neighbour(c: u64, d: u64, v: u64) -> u64
+    requires { ⌜ (1 ≤ c) × (c < 9007199254740992) × (d < 36028797018963968) × (v < 36028797018963968) ⌝ }
+    ensures { λ r. ⌜ r ≡ cond (ltb (v + c) d) (c + 1) (cond (leb (d + c) v) (c - 1) c) ⌝ }
+{
+    let up = (v + c < d) as u64;
+    let down = (d + c <= v) as u64;
+    c + up - down
 }
 
 // The whole number nearest to the root of a * 2^52: c or a neighbour of c where the exact remainder
@@ -80,15 +98,10 @@ fn verified(a: u64, c: u64) -> u64
                 if u < 536870912 {
                     let d = u * 67108864;
                     let v = t * t + 18014398509481984;
-                    if d <= v + c {
-                        if v < d + c {
-                            return c;
-                        }
+                    if d <= v + 3 * c {
                         if v + 2 < d + 3 * c {
-                            return c - 1;
+                            return neighbour(c, d, v);
                         }
-                    } else if d <= v + 3 * c {
-                        return c + 1;
                     }
                 }
             }

@@ -13,9 +13,12 @@ candidate-spec =
     (tie.spec
     (λ c. search needs)
     (λ c. search needs)
+    (λ c. below-is-number (1022 * H + c .args .m) (omega arith))
+    (λ c. search needs)
+    (λ c. search needs)
     (λ c. search needs)
     (λ c. below-is-number ((1022 + c .args .odd) * H + c .args .m) (omega arith))
-    (λ c. above-is-number _ (c .if1 .taken))
+    (λ c. above-is-number _ (c .if2 .taken))
     (λ c. search needs)
     (λ c. search needs)
     (λ c. search needs))
