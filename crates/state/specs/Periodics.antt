@@ -24,26 +24,27 @@ longPeriod p am k =
     let xl = p .mp ⊕ p .argpp ⊕ p .nodep ⊕ temp ⊗ k .xlcof ⊗ axnl in
     record { axnl = axnl; aynl = aynl; u = turned (xl ⊖ p .nodep) }
 
--- 3525-3528
-unfoldable pub latus : Long → Anomaly → Float → Latus
-latus q k am =
-    let ecose = q .axnl ⊗ k .coseo1 ⊕ q .aynl ⊗ k .sineo1 in
-    let esine = q .axnl ⊗ k .sineo1 ⊖ q .aynl ⊗ k .coseo1 in
+-- 3527-3528, and the roots of 3538 and 3539: none of them waits for Kepler's equation
+unfoldable pub latus : Long → Float → Latus
+latus q am =
     let el2 = q .axnl ⊗ q .axnl ⊕ q .aynl ⊗ q .aynl in
-    record { ecose = ecose; esine = esine; el2 = el2; pl = am ⊗ (dec 1 0 ⊖ el2) }
+    let pl = am ⊗ (dec 1 0 ⊖ el2) in
+    record { pl = pl; rootpl = sqrtOf pl; betal = sqrtOf (dec 1 0 ⊖ el2) }
 
 -- 3529: refusal 13
 unfoldable pub negativeLatus : Latus → Bool
 negativeLatus l = lt (l .pl) (dec 0 0)
 
--- 3536-3548
+-- 3525-3526, 3536-3548
 unfoldable pub plane : Long → Anomaly → Mean → Latus → Plane
 plane q k m l =
-    let rl = m .am ⊗ (dec 1 0 ⊖ l .ecose) in
-    let rdotl = m .root ⊗ l .esine ⊘ rl in
-    let rvdotl = sqrtOf (l .pl) ⊘ rl in
-    let betal = sqrtOf (dec 1 0 ⊖ l .el2) in
-    let temp = l .esine ⊘ (dec 1 0 ⊕ betal) in
+    let ecose = q .axnl ⊗ k .coseo1 ⊕ q .aynl ⊗ k .sineo1 in
+    let esine = q .axnl ⊗ k .sineo1 ⊖ q .aynl ⊗ k .coseo1 in
+    let rl = m .am ⊗ (dec 1 0 ⊖ ecose) in
+    let rdotl = m .root ⊗ esine ⊘ rl in
+    let rvdotl = l .rootpl ⊘ rl in
+    let betal = l .betal in
+    let temp = esine ⊘ (dec 1 0 ⊕ betal) in
     let sinu = m .am ⊘ rl ⊗ (k .sineo1 ⊖ q .aynl ⊖ q .axnl ⊗ temp) in
     let cosu = m .am ⊘ rl ⊗ (k .coseo1 ⊖ q .axnl ⊕ q .aynl ⊗ temp) in
     let su = atan2Of sinu cosu in

@@ -41,7 +41,7 @@ unfoldable pub periodics : Perturbed → Mean → Terms → Answer
 periodics p m k =
     let q = longPeriod p (m .am) k in
     let e = kepler q in
-    shortened p m k q e (latus q e (m .am))
+    shortened p m k q e (latus q (m .am))
 
 -- 3430, 3443-3453: a near-Earth satellite's perturbed elements are the mean ones; sin(inclm) and cos(inclm) are kept
 unfoldable pub unperturbed : NearEarth → Float → Angles → Perturbed

@@ -39,13 +39,11 @@ fn oriented(s: Short, su: SinCos, xnode: SinCos, xinc: SinCos, v: f64) -> State
 pub fn state(s: Short) -> State
     ensures { λ r. ⌜ r ≡ O.state s ⌝ }
 {
-    oriented(
-        s,
-        sin_cos(s.su),
-        sin_cos(s.xnode),
-        sin_cos(s.xinc),
-        vkmpersec(),
-    )
+    // su comes last of the three: it waits for the arctangent.
+    let xnode = sin_cos(s.xnode);
+    let xinc = sin_cos(s.xinc);
+    let su = sin_cos(s.su);
+    oriented(s, su, xnode, xinc, vkmpersec())
 }
 
 pub fn finite_state(s: State) -> bool

@@ -53,12 +53,11 @@ pub struct Anomaly {
     pub rounds: u8,
 }
 
-// Short-period preliminary quantities; pl is the semi-latus rectum.
+// The semi-latus rectum and its root, and the root of 1 - el2.
 pub struct Latus {
-    pub ecose: f64,
-    pub esine: f64,
-    pub el2: f64,
     pub pl: f64,
+    pub rootpl: f64,
+    pub betal: f64,
 }
 
 // Position and velocity in the orbit's plane.

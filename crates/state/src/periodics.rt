@@ -28,18 +28,15 @@ pub fn long_period(p: Perturbed, am: f64, k: Terms) -> Long
     Long { axnl, aynl, u }
 }
 
-pub fn latus(q: Long, k: Anomaly, am: f64) -> Latus
-    ensures { λ r. ⌜ r ≡ P.latus q k am ⌝ }
+// Of the short-period quantities those that do not wait for Kepler's equation.
+pub fn latus(q: Long, am: f64) -> Latus
+    ensures { λ r. ⌜ r ≡ P.latus q am ⌝ }
 {
-    let ecose = q.axnl * k.coseo1 + q.aynl * k.sineo1;
-    let esine = q.axnl * k.sineo1 - q.aynl * k.coseo1;
     let el2 = q.axnl * q.axnl + q.aynl * q.aynl;
-    Latus {
-        ecose,
-        esine,
-        el2,
-        pl: am * (1.0 - el2),
-    }
+    let pl = am * (1.0 - el2);
+    let rootpl = sqrt(pl);
+    let betal = sqrt(1.0 - el2);
+    Latus { pl, rootpl, betal }
 }
 
 // Refusal 13.
@@ -52,11 +49,13 @@ pub fn negative_latus(l: Latus) -> bool
 pub fn plane(q: Long, k: Anomaly, m: Mean, l: Latus) -> Plane
     ensures { λ r. ⌜ r ≡ P.plane q k m l ⌝ }
 {
-    let rl = m.am * (1.0 - l.ecose);
-    let rdotl = m.root * l.esine / rl;
-    let rvdotl = sqrt(l.pl) / rl;
-    let betal = sqrt(1.0 - l.el2);
-    let temp = l.esine / (1.0 + betal);
+    let ecose = q.axnl * k.coseo1 + q.aynl * k.sineo1;
+    let esine = q.axnl * k.sineo1 - q.aynl * k.coseo1;
+    let rl = m.am * (1.0 - ecose);
+    let rdotl = m.root * esine / rl;
+    let rvdotl = l.rootpl / rl;
+    let betal = l.betal;
+    let temp = esine / (1.0 + betal);
     let sinu = m.am / rl * (k.sineo1 - q.aynl - q.axnl * temp);
     let cosu = m.am / rl * (k.coseo1 - q.axnl + q.aynl * temp);
     let su = atan2(sinu, cosu);

@@ -62,8 +62,9 @@ pub fn periodics(p: Perturbed, m: Mean, k: Terms) -> Answer
     ensures { λ r. ⌜ r ≡ R.periodics p m k ⌝ }
 {
     let q = long_period(p, m.am, k);
+    let l = latus(q, m.am);
     let e = kepler(q);
-    shortened(p, m, k, q, e, latus(q, e, m.am))
+    shortened(p, m, k, q, e, l)
 }
 
 fn unperturbed(s: NearEarth, em: f64, a: Angles) -> Perturbed

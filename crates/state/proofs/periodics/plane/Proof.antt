@@ -7,4 +7,4 @@ use Rattle.state.proofs.periodics.plane.Tie as tie
 
 pub plane-spec : {M : Type 1} → statement M
 unfolding plane round units odd size span climb trailingZeros ofBits neg
-plane-spec = tie.close (tie.spec (λ c κs. search needs) (λ c κs. search needs) (λ c κs. search needs) (λ c. cc))
+plane-spec = tie.close (tie.spec (λ c κs. search needs) (λ c. simp (c .before .atan2 .ensures)))
