@@ -1,6 +1,7 @@
 -- Instants and their calendar, document 01, "Instants". Definitions only.
 use Prim.Native.Nat.{ℕ, zero, suc, _+_, _-_, _*_, _/_, _%_}
 use mathlib.Core.Bool.{Bool, cond, _&&_}
+use mathlib.Core.List.{List, [], _∷_}
 use lib.Dec.{leb, ltb, eqb}
 use Rattle.instant.specs.declared.Epoch.{Epoch}
 use Rattle.instant.specs.declared.Epoch.the-variants as epoch
@@ -63,3 +64,20 @@ dateOf t =
     let days = t / dayMicros in
     let k = yearsSince days in
     cond (inCalendar t) (dated.On (record { year = 1957 + k; day = days - daysBefore k + 1; micros = t % dayMicros })) dated.Outside
+
+-- document 01's refusal number of each answer, 0 where there is an instant or a date, and what comes back: with a refusal nothing
+unfoldable pub epochRefusal : Epoch → ℕ
+epochRefusal (epoch.At t) = 0
+epochRefusal epoch.Outside = 6
+
+unfoldable pub epochValues : Epoch → List ℕ
+epochValues (epoch.At t) = t .0 ∷ []
+epochValues epoch.Outside = []
+
+unfoldable pub datedRefusal : Dated → ℕ
+datedRefusal (dated.On d) = 0
+datedRefusal dated.Outside = 6
+
+unfoldable pub datedValues : Dated → List ℕ
+datedValues (dated.On d) = d .year ∷ d .day ∷ d .micros ∷ []
+datedValues dated.Outside = []

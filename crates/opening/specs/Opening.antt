@@ -14,6 +14,7 @@ use Rattle.tle.specs.declared.Reading.{Reading}
 use Rattle.tle.specs.declared.Reading.the-variants as reading
 use Rattle.tle.specs.Legal.{legal}
 use Rattle.tle.specs.Read.{readOf}
+use Rattle.tle.specs.Refusals.{Values, nothing, numberOf, valuesOf}
 use Rattle.satellite.specs.declared.Elements.{Elements}
 use Rattle.satellite.specs.declared.DeepSpace.{DeepSpace}
 use Rattle.satellite.specs.declared.Method.{Method}
@@ -88,7 +89,7 @@ above el i days gsto = cond (lt (i .rp) (dec 1 0)) (opening.Refused refusal.Peri
 unfoldable pub started : Elements → ℕ → Opening
 started el t = above el (initl (el .ecco) (el .inclo) (el .no)) (epochDaysOf t) (greenwichOf t)
 
--- a legal record's epoch is never outside (`Legal` in proofs/)
+-- a legal record's epoch is never outside (`epochs-inside` of tle's proofs/Accepted)
 unfoldable pub dated : Record → Epoch → Opening
 dated r (epoch.At t) = started (elementsOf r) (t .0)
 dated r epoch.Outside = opening.Refused refusal.Record
@@ -108,3 +109,14 @@ afterReading (reading.Refused why) = pair.Unread why
 
 unfoldable pub openPairOf : List ℕ → List ℕ → PairOpening
 openPairOf line1 line2 = afterReading (readOf line1 line2)
+
+-- document 01's number of each answer, 0 where there is a satellite, and what comes back with it: with 7, 8 and 16 nothing
+unfoldable pub pairNumber : PairOpening → ℕ
+pairNumber (pair.Opened s) = 0
+pairNumber (pair.Unread why) = numberOf why
+pairNumber (pair.Refused why) = number why
+
+unfoldable pub pairValues : PairOpening → Values
+pairValues (pair.Opened s) = nothing
+pairValues (pair.Unread why) = valuesOf why
+pairValues (pair.Refused why) = nothing

@@ -13,7 +13,7 @@ use Rattle.sgp4.specs.Sgp4.{integratorOf}
 use Rattle.opening.specs.declared.opening.Satellite.{Satellite}
 use Rattle.opening.specs.declared.opening.PairOpening.{PairOpening}
 use Rattle.opening.specs.declared.opening.PairOpening.the-variants as pair
-use Rattle.opening.specs.Opening.{openPairOf}
+use Rattle.opening.specs.Opening.{openPairOf, pairNumber}
 use Rattle.script.specs.declared.Ran.{Ran}
 use Rattle.script.specs.declared.Ran.the-variants.{Done, Short, Closed}
 use Rattle.requests.specs.Lists.{refusalsOf, statesOf, roundsOf, over}
@@ -85,6 +85,12 @@ ranOf false o = Short
 ranOf true (pair.Opened s) = Done
 ranOf true (pair.Unread why) = Closed
 ranOf true (pair.Refused why) = Closed
+
+-- document 01's number of each answer: 17, and where the lines do not open that of opening them
+unfoldable pub ranNumber : PairOpening → Ran → ℕ
+ranNumber o Done = 0
+ranNumber o Short = 17
+ranNumber o Closed = pairNumber o
 
 -- the contract of `run_script`: the answer; nothing written unless it is `Done`; and then demand 3 of the memory, for the satellite that the lines open to
 pub record Post (line1 line2 : List ℕ) (ns : List ℕ) (ts : List ℤ) (a : List ℕ) (b : List Float) (c : List ℕ) (d : List ℕ) (r : Ran) (a′ : List ℕ) (b′ : List Float) (c′ : List ℕ) (d′ : List ℕ) : Type 0 where
