@@ -1,4 +1,4 @@
-// Two-line element sets: the record, reading and writing.
+// Two-line element sets: the record, which records are legal, and reading.
 
 ghost use mathlib.Core.Path.{_≡_};
 ghost use Rattle.instant.specs.Calendar.{epochOf};

@@ -2,15 +2,15 @@ use denote.Ref.{now}
 use borrow.Author.Needs.{needs}
 use native.Mathlib.Omega.{arith}
 use mathlib.Core.Path.{_≡_}
-use Prim.Native.Nat.{_≤_, _<_, _+_, _-_, _%_}
+use Prim.Native.Nat.{_≤_, _+_, _*_, _-_}
 use lib.ListN.{length, drop}
 use Rattle.tle.specs.Number.{sum}
 use Rattle.tle.proofs.Steps.{sum-more, sum-done}
-use Rattle.tle.proofs.reader.checksum.Statement.{statement}
-use Rattle.tle.proofs.reader.checksum.Tie as tie
+use Rattle.tle.proofs.reader.short_sum.Statement.{statement}
+use Rattle.tle.proofs.reader.short_sum.Tie as tie
 
 abbrev Inv-loop : tie.InvT-loop
-Inv-loop s t₀ i₀ t i = (i ≤ length s) × (t < 10) × ((t + sum (drop i s)) % 10 ≡ sum s % 10)
+Inv-loop s t₀ i₀ t i = (i ≤ length s) × (t ≤ 9 * i) × (t + sum (drop i s) ≡ sum s)
 
 abbrev μ-loop : tie.MeasureT-loop
 μ-loop s t₀ i₀ t i = length s - i
@@ -26,9 +26,9 @@ returns c =
     let s = now (c .before .before .before .args .s) in
     omega (arith, sum-done s (c .before .loop .i) (omega arith))
 
-pub checksum-spec : {M : Type 1} → statement M
-checksum-spec =
+pub short-sum-spec : {M : Type 1} → statement M
+short-sum-spec =
     tie.close
     (tie.spec
     Inv-loop μ-loop (λ c. search needs) (λ c. search needs) (λ c κs. search needs) (λ c. search needs) (λ c. search needs) (λ c. search needs)
-    loop-again returns)
+    (λ c. search needs) loop-again returns)
