@@ -1,6 +1,8 @@
 //! The stored inputs and expected outputs of the programs under crates/ are what
 //! the independent scripts and this port make of them today.
 
+use port::request::{Row, Satellite};
+use port::tle::{self, Refusal};
 use std::fs;
 use std::path::PathBuf;
 use std::process::Command;
@@ -55,4 +57,115 @@ fn opened_numbers() {
     assert!(input == stored("crates/opened_numbers/stdin"));
     let made = output(&mut Command::new(env!("CARGO_BIN_EXE_open_numbers")));
     assert!(made == stored("crates/opened_numbers/stdout"));
+}
+
+/// The published positions: what crates/verification prints, by the port.
+#[derive(Default)]
+struct Verification {
+    first: String,
+    satellite: Option<Satellite>,
+    begun: bool,
+    compared: u64,
+    refused: u64,
+    off: u64,
+    largest: f64,
+    printed: String,
+}
+
+fn micrometres(km: f64) -> u64 {
+    (km * 1e9) as u64
+}
+
+impl Verification {
+    fn print(&mut self, line: &str) {
+        self.printed += line;
+        self.printed += "\n";
+    }
+
+    fn end_satellite(&mut self) {
+        if self.begun {
+            let lines = format!(
+                "rows compared {}\nrows refused {}\npositions off {}\nlargest difference in micrometres {}",
+                self.compared,
+                self.refused,
+                self.off,
+                micrometres(self.largest)
+            );
+            self.print(&lines);
+        }
+        let printed = std::mem::take(&mut self.printed);
+        *self = Verification { printed, ..Verification::default() };
+    }
+
+    fn open(&mut self, second: &str) {
+        self.print(&format!("satellite {}", &self.first[2..7]));
+        self.begun = true;
+        match tle::read(self.first.as_bytes(), second.as_bytes()) {
+            Ok(record) => match Satellite::open(&record) {
+                Ok(satellite) => self.satellite = Some(satellite),
+                Err(number) => self.print(&format!("refused {number}")),
+            },
+            Err(Refusal::Layout { line, column }) => self.print(&format!("refused 3 {line} {column}")),
+            Err(Refusal::Checksum { line }) => self.print(&format!("refused 4 {line}")),
+            Err(other) => panic!("{other:?}"),
+        }
+    }
+
+    fn compare(&mut self, time: i64, row: Row, published: &[i64]) {
+        if row.refusal != 0 {
+            self.refused += 1;
+            return self.print(&format!("at {time} refused {}", row.refusal));
+        }
+        let part = |k: usize| row.r[k] - published[k] as f64 / 1e8;
+        let (x, y, z) = (part(0), part(1), part(2));
+        let km = (x * x + y * y + z * z).sqrt();
+        self.compared += 1;
+        self.largest = self.largest.max(km);
+        if km > 0.001 {
+            self.off += 1;
+            self.print(&format!("at {time} off by micrometres {}", micrometres(km)));
+        }
+    }
+
+    fn time(&mut self, line: &str) {
+        let numbers: Vec<i64> = line.split(' ').skip(1).map(|word| word.parse().unwrap()).collect();
+        let listed = line.starts_with("list ");
+        let Some(satellite) = &mut self.satellite else {
+            self.refused += u64::from(listed);
+            return;
+        };
+        let row = satellite.request(numbers[0]).0;
+        if listed {
+            self.compare(numbers[0], row, &numbers[1..]);
+        } else {
+            self.print(&format!("published stop at {} refused {}", numbers[0], row.refusal));
+        }
+    }
+
+    fn line(&mut self, line: &str) {
+        match line.as_bytes()[0] {
+            b'1' => {
+                self.end_satellite();
+                self.first = line.to_string();
+            }
+            b'2' => self.open(line),
+            b'#' => {
+                self.end_satellite();
+                self.print(line);
+            }
+            _ => self.time(line),
+        }
+    }
+}
+
+#[test]
+fn verification() {
+    let made = output(Command::new("python3").arg("tests/verification.py").current_dir(root()));
+    assert!(made == stored("crates/verification/stdin"));
+    let mut run = Verification::default();
+    for line in String::from_utf8(made).unwrap().lines() {
+        run.line(line);
+    }
+    run.end_satellite();
+    assert_eq!(run.printed, String::from_utf8(stored("crates/verification/stdout")).unwrap());
 }

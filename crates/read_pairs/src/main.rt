@@ -3,65 +3,22 @@
 // expected output are made by tests/tle_pairs.py, with a reader of its own.
 use libc::STDIN_FILENO;
 use libc::STDOUT_FILENO;
+use refusal_line::put_refusal;
 use text::input::Line;
 use text::input::Lines;
-use text::output::put_byte;
 use text::output::put_bytes;
-use text::output::put_decimal;
-use tle::Field;
 use tle::Reading;
-use tle::Refusal;
-
-fn put_field(out: &mut [u8], at: usize, field: Field) -> usize {
-    match field {
-        Field::Day => put_bytes(out, at, b" day"),
-        Field::Inclination => put_bytes(out, at, b" inclination"),
-        Field::Node => put_bytes(out, at, b" node"),
-        Field::Perigee => put_bytes(out, at, b" perigee"),
-        Field::Anomaly => put_bytes(out, at, b" anomaly"),
-        Field::Motion => put_bytes(out, at, b" motion"),
-    }
-}
-
-fn put_line_number(out: &mut [u8], at: usize, line: tle::Line) -> usize {
-    match line {
-        tle::Line::One => put_bytes(out, at, b" 1"),
-        tle::Line::Two => put_bytes(out, at, b" 2"),
-    }
-}
-
-fn put_values(out: &mut [u8], at: usize, refusal: Refusal) -> usize {
-    match refusal {
-        Refusal::Length(line) => put_line_number(out, at, line),
-        Refusal::Start(line) => put_line_number(out, at, line),
-        Refusal::Column(line, column) => {
-            let next = put_line_number(out, at, line);
-            let next = put_byte(out, next, b' ');
-            put_decimal(out, next, column as u64)
-        }
-        Refusal::Checksum(line) => put_line_number(out, at, line),
-        Refusal::Numbers => at,
-        Refusal::Range(field) => put_field(out, at, field),
-    }
-}
-
-fn put_refusal(out: &mut [u8], refusal: Refusal) -> usize {
-    let next = put_bytes(out, 0, b"refused ");
-    let next = put_decimal(out, next, refusal.number());
-    put_values(out, next, refusal)
-}
 
 fn put_reading(out: &mut [u8], reading: Reading) -> usize {
     match reading {
-        Reading::Record(_) => put_bytes(out, 0, b"ok"),
-        Reading::Refused(refusal) => put_refusal(out, refusal),
+        Reading::Record(_) => put_bytes(out, 0, b"ok\n"),
+        Reading::Refused(refusal) => put_refusal(out, 0, refusal),
     }
 }
 
 fn print(line1: &[u8], line2: &[u8]) {
     let mut out = [0u8; 64];
-    let next = put_reading(&mut out, tle::read(line1, line2));
-    let size = put_byte(&mut out, next, b'\n');
+    let size = put_reading(&mut out, tle::read(line1, line2));
     if size <= 64 {
         io::write_all(STDOUT_FILENO, &out[0..size]);
     }
