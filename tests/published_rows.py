@@ -50,6 +50,7 @@ def replayed(found):
         (f"one {three}", [row[three], "strides 1"]),
         (f"list {three} {one} -{FARTHEST + 1} 0", [row[three], row[one], far, row[0], "strides 1"]),
         ("list", ["strides 0"]),
+        (f"list {FARTHEST + 1} -{FARTHEST + 1}", [far, far, "strides 0"]),
         (f"one {FARTHEST + 1}", [far, "strides 0"]),
         ("list" + " 0" * 1024, [row[0]] * 1024 + ["strides 0"]),
         ("list" + " 0" * 1025, ["refused 18", "strides 0"]),
