@@ -1,0 +1,18 @@
+use borrow.Author.Needs.{needs}
+use Rattle.saddlekerf.proofs.Posts.{not-saved, saved}
+use Rattle.saddlekerf.proofs.put_list.Statement.{statement}
+use Rattle.saddlekerf.proofs.put_list.Tie as tie
+
+returns : tie.Need-returns
+returns c = (c .answer .ensures, not-saved _ _ _ _ (c .before .if1 .taken))
+
+returns-2 : tie.Need-returns-2
+returns-2 c =
+    let t = c .before .before .before .before .before in
+    let f = t .store-place .ensures in
+    (c .answer2 .ensures, saved _ _ _ _ (t .before .before .before .if1 .left) (f .1 .0) (f .1 .1))
+
+pub put-list-spec : {M : Type 1} → statement M
+put-list-spec =
+    tie.close
+    (tie.spec (λ c κs. search needs) returns (λ c κs. search needs) (λ c κs. search needs) (λ c. search needs) (λ c. search needs) returns-2)

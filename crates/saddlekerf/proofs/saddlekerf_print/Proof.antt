@@ -1,0 +1,31 @@
+use mathlib.Core.Path.{sym, ap, _∙_}
+use native.Mathlib.Omega.{arith}
+use borrow.Author.Needs.{needs}
+use Rattle.saddlekerf.specs.Pairs.{printedAnswer}
+use Rattle.saddlekerf.proofs.Loads.{written-fits}
+use Rattle.saddlekerf.proofs.saddlekerf_print.Statement.{statement}
+use Rattle.saddlekerf.proofs.saddlekerf_print.Tie as tie
+
+cast-answer : tie.Need-cast-answer
+cast-answer c = let w = c .before in let h = written-fits _ _ _ _ (sym (w .before .before .before .before .print-pair .ensures .answered) ∙ w .n .given .1) in omega (arith, h)
+
+returns : tie.Need-returns
+unfolding printedAnswer
+returns c =
+    let w = c .before .before in
+    let p = w .before .before .before .before .print-pair .ensures in
+    (c .answer .ensures ∙ sym (ap printedAnswer (sym (p .answered) ∙ w .n .given .1)), p .stored)
+
+returns-2 : tie.Need-returns-2
+unfolding printedAnswer
+returns-2 c =
+    let w = c .before in
+    let p = w .before .before .before .before .print-pair .ensures in
+    (c .answer2 .ensures ∙ sym (ap printedAnswer (sym (p .answered) ∙ w .enum-told .given .1)), p .stored)
+
+pub saddlekerf-print-spec : {M : Type 1} → statement M
+saddlekerf-print-spec =
+    tie.close
+    (tie.spec
+    (λ c κs. search needs) (λ c. search needs) cast-answer (λ c κs. search needs) (λ c. search needs) (λ c κs. search needs) (λ c. search needs)
+    returns (λ c. search needs) returns-2)

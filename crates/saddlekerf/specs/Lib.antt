@@ -1,0 +1,4 @@
+pub mod Answer
+pub mod Pairs
+pub mod Requests
+pub mod Sequences

@@ -1,0 +1,245 @@
+// The library's boundary to C and Rust: functions on numbers and slices. A satellite lies in memory
+// that the caller lends (crate storage). include/saddlekerf.h has the same for C.
+ghost use mathlib.Core.Path.{_≡_};
+ghost use Prim.Native.Nat.{_≤_};
+ghost use lib.ListN.{length};
+ghost use Rattle.tle.specs.Refusals.{lineNumber};
+ghost use Rattle.tle.specs.Read.{readOf};
+ghost use Rattle.text.specs.Output.{fronted};
+ghost use Rattle.listing.specs.Listing as T;
+ghost use Rattle.opening.specs.Opening.{openPairOf};
+ghost use Rattle.opening.specs.Opening as O;
+ghost use Rattle.storage.specs.Storage.{placedNumbers, placedMarks};
+ghost use Rattle.saddlekerf.specs.Answer.{answer, fieldNumber, refusalAnswer, readingAnswer, ColumnFits};
+ghost use Rattle.saddlekerf.specs.Pairs as P;
+ghost use Rattle.saddlekerf.specs.Requests as R;
+use instant::Epoch;
+use instant::Microseconds;
+use listing::Printed;
+use listing::print_pair;
+use opening::opening::PairOpening;
+use opening::opening::open_pair;
+use requests::Answered;
+use requests::ListAnswer;
+use requests::request;
+use requests::request_list;
+use sgp4::Row;
+use storage::Loading;
+use storage::load;
+use storage::store;
+use storage::store_place;
+use tle::Field;
+use tle::Line;
+use tle::Reading;
+use tle::Refusal;
+use tle::epoch;
+use tle::read;
+
+// The parts of an answer, put together.
+fn answer(refusal: u8, detail: u8, place: u16, count: u32) -> u64
+    ensures { λ r. ⌜ r ≡ answer refusal detail place count ⌝ }
+{
+    refusal as u64 + 256 * (detail as u64) + 65536 * (place as u64) + 4294967296 * (count as u64)
+}
+
+fn line_number(line: Line) -> u8
+    ensures { λ r. ⌜ r ≡ lineNumber line ⌝ }
+{
+    match line {
+        Line::One => 1,
+        Line::Two => 2,
+    }
+}
+
+fn field_number(field: Field) -> u16
+    ensures { λ r. ⌜ r ≡ fieldNumber field ⌝ }
+{
+    match field {
+        Field::Day => 1,
+        Field::Inclination => 2,
+        Field::Node => 3,
+        Field::Perigee => 4,
+        Field::Anomaly => 5,
+        Field::Motion => 6,
+    }
+}
+
+// A refusal of reading with its values.
+fn refusal_answer(why: Refusal) -> u64
+    requires { ⌜ ColumnFits why ⌝ }
+    ensures { λ r. ⌜ r ≡ refusalAnswer why ⌝ }
+{
+    match why {
+        Refusal::Length(line) => answer(1, line_number(line), 0, 0),
+        Refusal::Start(line) => answer(2, line_number(line), 0, 0),
+        Refusal::Column(line, column) => answer(3, line_number(line), column as u16, 0),
+        Refusal::Checksum(line) => answer(4, line_number(line), 0, 0),
+        Refusal::Numbers => answer(5, 0, 0, 0),
+        Refusal::Range(field) => answer(6, 0, field_number(field), 0),
+    }
+}
+
+// Reads a pair: 0, or the refusal with its values.
+#[no_mangle]
+pub extern "C" fn saddlekerf_read(line1: &[u8], line2: &[u8]) -> u64
+    ensures { λ r. ⌜ r ≡ readingAnswer (readOf (now (line1 .entry)) (now (line2 .entry))) ⌝ }
+{
+    match read(line1, line2) {
+        Reading::Record(_) => answer(0, 0, 0, 0),
+        Reading::Refused(why) => refusal_answer(why),
+    }
+}
+
+// The listing of a pair, or of its refusal, at the front of `out`; 17 where that is too short.
+#[no_mangle]
+pub extern "C" fn saddlekerf_print(line1: &[u8], line2: &[u8], out: &mut [u8]) -> u64
+    ensures { λ r. ⌜ r ≡ P.printedAnswer (T.answer (T.readingText (readOf (now (line1 .entry)) (now (line2 .entry)))) (length (now (out .entry)))) ⌝ }
+    ensures { λ _. ⌜ now (out .exit) ≡ fronted (T.readingText (readOf (now (line1 .entry)) (now (line2 .entry)))) (now (out .entry)) ⌝ }
+{
+    match print_pair(line1, line2, out) {
+        Printed::Written(n) => answer(0, 0, 0, n as u32),
+        Printed::RoomTooShort => answer(17, 0, 0, 0),
+    }
+}
+
+fn put_instant(e: Epoch, micros: &mut u64) -> u64
+    ensures { λ r. ⌜ r ≡ P.instantAnswer e ⌝ }
+    ensures { λ _. ⌜ now (micros .exit) ≡ P.instantPut e (now (micros .entry)) ⌝ }
+{
+    match e {
+        Epoch::At(t) => {
+            *micros = t.0;
+            answer(0, 0, 0, 0)
+        }
+        Epoch::Outside => answer(6, 0, 0, 0),
+    }
+}
+
+// The epoch of a pair, in microseconds since 1957 January 1, 0h.
+#[no_mangle]
+pub extern "C" fn saddlekerf_epoch(line1: &[u8], line2: &[u8], micros: &mut u64) -> u64
+    ensures { λ r. ⌜ r ≡ P.epochAnswer (readOf (now (line1 .entry)) (now (line2 .entry))) ⌝ }
+    ensures { λ _. ⌜ now (micros .exit) ≡ P.epochPut (readOf (now (line1 .entry)) (now (line2 .entry))) (now (micros .entry)) ⌝ }
+{
+    match read(line1, line2) {
+        Reading::Record(r) => put_instant(epoch(r), micros),
+        Reading::Refused(why) => refusal_answer(why),
+    }
+}
+
+fn opening_answer(why: opening::opening::Refusal) -> u64
+    ensures { λ r. ⌜ r ≡ answer (O.number why) 0 0 0 ⌝ }
+{
+    why.number()
+}
+
+// Opens a pair into lent memory.
+#[no_mangle]
+pub extern "C" fn saddlekerf_open(
+    line1: &[u8],
+    line2: &[u8],
+    numbers: &mut [f64],
+    marks: &mut [u32],
+) -> u64
+    ensures { λ r. ⌜ r ≡ P.openAnswer (openPairOf (now (line1 .entry)) (now (line2 .entry))) (length (now (numbers .entry))) (length (now (marks .entry))) ⌝ }
+    ensures { λ _. ⌜ now (numbers .exit) ≡ P.openNumbers (openPairOf (now (line1 .entry)) (now (line2 .entry))) (now (numbers .entry)) (now (marks .entry)) ⌝ }
+    ensures { λ _. ⌜ now (marks .exit) ≡ P.openMarks (openPairOf (now (line1 .entry)) (now (line2 .entry))) (now (numbers .entry)) (now (marks .entry)) ⌝ }
+{
+    match open_pair(line1, line2) {
+        PairOpening::Opened(s) => answer(store(s, numbers, marks), 0, 0, 0),
+        PairOpening::Unread(why) => refusal_answer(why),
+        PairOpening::Refused(why) => opening_answer(why),
+    }
+}
+
+// A row that is answered, at the front of a room.
+fn put_row(row: Row, state: &mut [f64])
+    requires { ⌜ 6 ≤ length (now state) ⌝ }
+    ensures { λ _. ⌜ now (state .exit) ≡ R.rowPut row (now (state .entry)) ⌝ }
+{
+    if row.refusal == 0 {
+        state[0] = row.x;
+        state[1] = row.y;
+        state[2] = row.z;
+        state[3] = row.vx;
+        state[4] = row.vy;
+        state[5] = row.vz;
+    }
+}
+
+// The answer to one time; the position reached goes into the satellite's memory.
+fn put_answer(a: Answered, numbers: &mut [f64], marks: &mut [u32], state: &mut [f64]) -> u64
+    requires { ⌜ 6 ≤ length (now state) ⌝ }
+    ensures { λ r. ⌜ r ≡ answer (a .row .refusal) (a .row .rounds) 0 (a .strides .0) ⌝ }
+    ensures { λ _. ⌜ now (numbers .exit) ≡ placedNumbers (a .satellite .place) (now (numbers .entry)) (now (marks .entry)) ⌝ }
+    ensures { λ _. ⌜ now (marks .exit) ≡ placedMarks (a .satellite .place) (now (numbers .entry)) (now (marks .entry)) ⌝ }
+    ensures { λ _. ⌜ now (state .exit) ≡ R.rowPut (a .row) (now (state .entry)) ⌝ }
+{
+    let row = a.row;
+    let satellite = a.satellite;
+    let reached = satellite.place;
+    let strides = a.strides;
+    let _ = store_place(reached, numbers, marks);
+    put_row(row, state);
+    answer(row.refusal, row.rounds, 0, strides.0)
+}
+
+// Asks the satellite in memory for one time, in microseconds since its epoch.
+#[no_mangle]
+pub extern "C" fn saddlekerf_request(
+    numbers: &mut [f64],
+    marks: &mut [u32],
+    time: i64,
+    state: &mut [f64],
+) -> u64
+    ensures { λ r. ⌜ R.RequestPost (now (numbers .entry)) (now (marks .entry)) time (now (state .entry)) r (now (numbers .exit)) (now (marks .exit)) (now (state .exit)) ⌝ }
+{
+    if state.len() < 6 {
+        return answer(17, 0, 0, 0);
+    }
+    match load(numbers, marks) {
+        Loading::Loaded(s) => put_answer(request(s, Microseconds(time)), numbers, marks, state),
+        Loading::RoomTooShort => answer(17, 0, 0, 0),
+    }
+}
+
+// The answer to a list; the position reached goes into the satellite's memory.
+fn put_list(a: ListAnswer, numbers: &mut [f64], marks: &mut [u32]) -> u64
+    ensures { λ r. ⌜ r ≡ answer (a .refusal) 0 0 (a .strides .0) ⌝ }
+    ensures { λ _. ⌜ now (numbers .exit) ≡ R.savedNumbers (a .refusal) (a .satellite .place) (now (numbers .entry)) (now (marks .entry)) ⌝ }
+    ensures { λ _. ⌜ now (marks .exit) ≡ R.savedMarks (a .refusal) (a .satellite .place) (now (numbers .entry)) (now (marks .entry)) ⌝ }
+{
+    let refusal = a.refusal;
+    let strides = a.strides;
+    let satellite = a.satellite;
+    let place = satellite.place;
+    if refusal != 0 {
+        return answer(refusal, 0, 0, strides.0);
+    }
+    let _ = store_place(place, numbers, marks);
+    answer(refusal, 0, 0, strides.0)
+}
+
+// Asks the satellite in memory for a list of times.
+#[no_mangle]
+pub extern "C" fn saddlekerf_request_list(
+    numbers: &mut [f64],
+    marks: &mut [u32],
+    times: &[i64],
+    refusals: &mut [u8],
+    states: &mut [f64],
+    rounds: &mut [u8],
+) -> u64
+    ensures { λ r. ⌜ R.ListPost (now (numbers .entry)) (now (marks .entry)) (now (times .entry)) (now (refusals .entry)) (now (states .entry)) (now (rounds .entry)) r (now (numbers .exit)) (now (marks .exit)) (now (refusals .exit)) (now (states .exit)) (now (rounds .exit)) ⌝ }
+{
+    if 1024 < times.len() {
+        return answer(18, 0, 0, 0);
+    }
+    match load(numbers, marks) {
+        Loading::Loaded(s) => {
+            let a = request_list(s, times, refusals, states, rounds);
+            put_list(a, numbers, marks)
+        }
+        Loading::RoomTooShort => answer(17, 0, 0, 0),
+    }
+}

@@ -1,0 +1,579 @@
+// An opened satellite in memory that a caller lends: its f64s in `numbers`, the rest in `marks`.
+// specs/Storage has the layout. Any memory that is long enough holds a satellite, and one that was
+// stored comes back the same.
+ghost use mathlib.Core.Path.{_≡_};
+ghost use mathlib.Core.List.{_++_};
+ghost use Prim.Native.Nat.{_+_, _*_, _≤_};
+ghost use lib.ListN.{length};
+ghost use lib.Seq.{sets};
+ghost use Rattle.storage.specs.Storage as S;
+use instant::Strides;
+use opening::opening::Satellite;
+use resonance::place::Place;
+use resonance::place::Side;
+use satellite::DeepSpace;
+use satellite::Drag;
+use satellite::Elements;
+use satellite::HalfDay;
+use satellite::Higher;
+use satellite::Integrator;
+use satellite::Kept;
+use satellite::LunarSolar;
+use satellite::Method;
+use satellite::Model;
+use satellite::NearEarth;
+use satellite::OneDay;
+use satellite::Periodics;
+use satellite::Rates;
+use satellite::Resonance;
+use satellite::SecularRates;
+use satellite::Terms;
+
+// What loading gives: a satellite, or document 01's refusal 17.
+pub enum Loading {
+    Loaded(Satellite),
+    RoomTooShort,
+}
+
+fn elements_at(numbers: &[f64]) -> Elements
+    requires { ⌜ 83 ≤ length (now numbers) ⌝ }
+    ensures { λ r. ⌜ r ≡ S.elementsAt (now (numbers .entry)) ⌝ }
+{
+    Elements {
+        bstar: numbers[2],
+        ecco: numbers[3],
+        argpo: numbers[4],
+        inclo: numbers[5],
+        mo: numbers[6],
+        no: numbers[7],
+        nodeo: numbers[8],
+    }
+}
+
+fn drag_at(numbers: &[f64]) -> Drag
+    requires { ⌜ 83 ≤ length (now numbers) ⌝ }
+    ensures { λ r. ⌜ r ≡ S.dragAt (now (numbers .entry)) ⌝ }
+{
+    Drag {
+        eta: numbers[9],
+        cc1: numbers[10],
+        cc4: numbers[11],
+        cc5: numbers[12],
+        omgcof: numbers[13],
+        xmcof: numbers[14],
+        t2cof: numbers[15],
+        delmo: numbers[16],
+        sinmao: numbers[17],
+    }
+}
+
+fn higher_at(numbers: &[f64]) -> Higher
+    requires { ⌜ 83 ≤ length (now numbers) ⌝ }
+    ensures { λ r. ⌜ r ≡ S.higherAt (now (numbers .entry)) ⌝ }
+{
+    Higher {
+        d2: numbers[18],
+        d3: numbers[19],
+        d4: numbers[20],
+        t3cof: numbers[21],
+        t4cof: numbers[22],
+        t5cof: numbers[23],
+    }
+}
+
+fn rates_at(numbers: &[f64]) -> Rates
+    requires { ⌜ 83 ≤ length (now numbers) ⌝ }
+    ensures { λ r. ⌜ r ≡ S.ratesAt (now (numbers .entry)) ⌝ }
+{
+    Rates {
+        mdot: numbers[24],
+        argpdot: numbers[25],
+        nodedot: numbers[26],
+        nodecf: numbers[27],
+    }
+}
+
+fn terms_at(numbers: &[f64]) -> Terms
+    requires { ⌜ 83 ≤ length (now numbers) ⌝ }
+    ensures { λ r. ⌜ r ≡ S.termsAt (now (numbers .entry)) ⌝ }
+{
+    Terms {
+        con41: numbers[28],
+        x1mth2: numbers[29],
+        x7thm1: numbers[30],
+        xlcof: numbers[31],
+        aycof: numbers[32],
+    }
+}
+
+fn kept_at(numbers: &[f64]) -> Kept
+    requires { ⌜ 83 ≤ length (now numbers) ⌝ }
+    ensures { λ r. ⌜ r ≡ S.keptAt (now (numbers .entry)) ⌝ }
+{
+    Kept {
+        ao: numbers[33],
+        sinio: numbers[34],
+        cosio: numbers[35],
+    }
+}
+
+fn near_earth_at(numbers: &[f64], isimp: bool) -> NearEarth
+    requires { ⌜ 83 ≤ length (now numbers) ⌝ }
+    ensures { λ r. ⌜ r ≡ S.nearEarthAt (now (numbers .entry)) isimp ⌝ }
+{
+    let elements = elements_at(numbers);
+    let drag = drag_at(numbers);
+    let higher = higher_at(numbers);
+    let rates = rates_at(numbers);
+    let terms = terms_at(numbers);
+    let kept = kept_at(numbers);
+    NearEarth {
+        elements,
+        isimp,
+        drag,
+        higher,
+        rates,
+        terms,
+        kept,
+    }
+}
+
+fn secular_rates_at(numbers: &[f64]) -> SecularRates
+    requires { ⌜ 83 ≤ length (now numbers) ⌝ }
+    ensures { λ r. ⌜ r ≡ S.secularAt (now (numbers .entry)) ⌝ }
+{
+    SecularRates {
+        dedt: numbers[36],
+        didt: numbers[37],
+        dmdt: numbers[38],
+        dnodt: numbers[39],
+        domdt: numbers[40],
+    }
+}
+
+fn periodics_at(numbers: &[f64], at: usize) -> Periodics
+    requires { ⌜ (at ≤ 71) × (83 ≤ length (now numbers)) ⌝ }
+    ensures { λ r. ⌜ r ≡ S.periodicsAt (now (numbers .entry)) at ⌝ }
+{
+    Periodics {
+        e2: numbers[at],
+        e3: numbers[at + 1],
+        i2: numbers[at + 2],
+        i3: numbers[at + 3],
+        l2: numbers[at + 4],
+        l3: numbers[at + 5],
+        l4: numbers[at + 6],
+        gh2: numbers[at + 7],
+        gh3: numbers[at + 8],
+        gh4: numbers[at + 9],
+        h2: numbers[at + 10],
+        h3: numbers[at + 11],
+    }
+}
+
+fn lunar_solar_at(numbers: &[f64]) -> LunarSolar
+    requires { ⌜ 83 ≤ length (now numbers) ⌝ }
+    ensures { λ r. ⌜ r ≡ S.lunarSolarAt (now (numbers .entry)) ⌝ }
+{
+    let sun = periodics_at(numbers, 41);
+    let moon = periodics_at(numbers, 53);
+    LunarSolar {
+        sun,
+        moon,
+        zmos: numbers[65],
+        zmol: numbers[66],
+    }
+}
+
+fn one_day_at(numbers: &[f64]) -> OneDay
+    requires { ⌜ 83 ≤ length (now numbers) ⌝ }
+    ensures { λ r. ⌜ r ≡ S.oneDayAt (now (numbers .entry)) ⌝ }
+{
+    OneDay {
+        del1: numbers[73],
+        del2: numbers[74],
+        del3: numbers[75],
+    }
+}
+
+fn half_day_at(numbers: &[f64]) -> HalfDay
+    requires { ⌜ 83 ≤ length (now numbers) ⌝ }
+    ensures { λ r. ⌜ r ≡ S.halfDayAt (now (numbers .entry)) ⌝ }
+{
+    HalfDay {
+        d2201: numbers[73],
+        d2211: numbers[74],
+        d3210: numbers[75],
+        d3222: numbers[76],
+        d4410: numbers[77],
+        d4422: numbers[78],
+        d5220: numbers[79],
+        d5232: numbers[80],
+        d5421: numbers[81],
+        d5433: numbers[82],
+    }
+}
+
+// 1 is a deep-space satellite without resonance, 2 one-day, any other number half-day.
+fn resonance_at(numbers: &[f64], kind: u32) -> Resonance
+    requires { ⌜ 83 ≤ length (now numbers) ⌝ }
+    ensures { λ r. ⌜ r ≡ S.resonanceAt (now (numbers .entry)) kind ⌝ }
+{
+    if kind == 1 {
+        return Resonance::None;
+    }
+    if kind == 2 {
+        return Resonance::OneDay(one_day_at(numbers));
+    }
+    Resonance::HalfDay(half_day_at(numbers))
+}
+
+fn integrator_at(numbers: &[f64], kind: u32) -> Integrator
+    requires { ⌜ 83 ≤ length (now numbers) ⌝ }
+    ensures { λ r. ⌜ r ≡ S.integratorAt (now (numbers .entry)) kind ⌝ }
+{
+    let resonance = resonance_at(numbers, kind);
+    Integrator {
+        resonance,
+        xlamo: numbers[67],
+        xfact: numbers[68],
+        no: numbers[69],
+        argpo: numbers[70],
+        argpdot: numbers[71],
+        gsto: numbers[72],
+    }
+}
+
+fn deep_space_at(numbers: &[f64], kind: u32) -> DeepSpace
+    requires { ⌜ 83 ≤ length (now numbers) ⌝ }
+    ensures { λ r. ⌜ r ≡ S.deepSpaceAt (now (numbers .entry)) kind ⌝ }
+{
+    let rates = secular_rates_at(numbers);
+    let periodics = lunar_solar_at(numbers);
+    let integrator = integrator_at(numbers, kind);
+    DeepSpace {
+        rates,
+        periodics,
+        integrator,
+    }
+}
+
+// 0 is near Earth.
+fn method_at(numbers: &[f64], kind: u32) -> Method
+    requires { ⌜ 83 ≤ length (now numbers) ⌝ }
+    ensures { λ r. ⌜ r ≡ S.methodAt (now (numbers .entry)) kind ⌝ }
+{
+    if kind == 0 {
+        return Method::NearEarth;
+    }
+    Method::DeepSpace(deep_space_at(numbers, kind))
+}
+
+// 0 is forward, any other number back.
+fn side_at(mark: u32) -> Side
+    ensures { λ r. ⌜ r ≡ S.sideAt mark ⌝ }
+{
+    if mark == 0 {
+        return Side::Forward;
+    }
+    Side::Back
+}
+
+// The satellite of a room that is long enough.
+fn held(numbers: &[f64], marks: &[u32]) -> Satellite
+    requires { ⌜ 83 ≤ length (now numbers) ⌝ }
+    requires { ⌜ 4 ≤ length (now marks) ⌝ }
+    ensures { λ r. ⌜ r ≡ S.satelliteOf (now (numbers .entry)) (now (marks .entry)) ⌝ }
+{
+    let kind = marks[3];
+    let method = method_at(numbers, kind);
+    let near = near_earth_at(numbers, marks[2] != 0);
+    let side = side_at(marks[0]);
+    let place = Place {
+        side,
+        strides: Strides(marks[1]),
+        xli: numbers[0],
+        xni: numbers[1],
+    };
+    let model = Model { near, method };
+    Satellite { model, place }
+}
+
+// The satellite that lies in the memory, whoever wrote it.
+pub fn load(numbers: &[f64], marks: &[u32]) -> Loading
+    ensures { λ r. ⌜ r ≡ S.loadingOf (now (numbers .entry)) (now (marks .entry)) ⌝ }
+{
+    if numbers.len() < 83 {
+        return Loading::RoomTooShort;
+    }
+    if marks.len() < 4 {
+        return Loading::RoomTooShort;
+    }
+    Loading::Loaded(held(numbers, marks))
+}
+
+// The numbers 2 to 17.
+fn orbit_numbers(el: Elements, d: Drag) -> [f64; 16]
+    ensures { λ r. ⌜ r ≡ S.elementsNumbers el ++ S.dragNumbers d ⌝ }
+{
+    [
+        el.bstar,
+        el.ecco,
+        el.argpo,
+        el.inclo,
+        el.mo,
+        el.no,
+        el.nodeo,
+        d.eta,
+        d.cc1,
+        d.cc4,
+        d.cc5,
+        d.omgcof,
+        d.xmcof,
+        d.t2cof,
+        d.delmo,
+        d.sinmao,
+    ]
+}
+
+// The numbers 18 to 35.
+fn term_numbers(h: Higher, r: Rates, t: Terms, k: Kept) -> [f64; 18]
+    ensures { λ a. ⌜ a ≡ S.higherNumbers h ++ S.ratesNumbers r ++ S.termsNumbers t ++ S.keptNumbers k ⌝ }
+{
+    [
+        h.d2,
+        h.d3,
+        h.d4,
+        h.t3cof,
+        h.t4cof,
+        h.t5cof,
+        r.mdot,
+        r.argpdot,
+        r.nodedot,
+        r.nodecf,
+        t.con41,
+        t.x1mth2,
+        t.x7thm1,
+        t.xlcof,
+        t.aycof,
+        k.ao,
+        k.sinio,
+        k.cosio,
+    ]
+}
+
+fn periodics_numbers(p: Periodics) -> [f64; 12]
+    ensures { λ a. ⌜ a ≡ S.periodicsNumbers p ⌝ }
+{
+    [
+        p.e2,
+        p.e3,
+        p.i2,
+        p.i3,
+        p.l2,
+        p.l3,
+        p.l4,
+        p.gh2,
+        p.gh3,
+        p.gh4,
+        p.h2,
+        p.h3,
+    ]
+}
+
+// The numbers 73 to 82.
+fn coefficients(r: Resonance) -> [f64; 10]
+    ensures { λ a. ⌜ a ≡ S.coefficients r ⌝ }
+{
+    match r {
+        Resonance::None => [0.0; 10],
+        Resonance::OneDay(d) => [d.del1, d.del2, d.del3, 0.0, 0.0, 0.0, 0.0, 0.0, 0.0, 0.0],
+        Resonance::HalfDay(d) => [
+            d.d2201,
+            d.d2211,
+            d.d3210,
+            d.d3222,
+            d.d4410,
+            d.d4422,
+            d.d5220,
+            d.d5232,
+            d.d5421,
+            d.d5433,
+        ],
+    }
+}
+
+fn side_mark(side: Side) -> u32
+    ensures { λ r. ⌜ r ≡ S.sideMark side ⌝ }
+{
+    match side {
+        Side::Forward => 0,
+        Side::Back => 1,
+    }
+}
+
+fn resonance_mark(r: Resonance) -> u32
+    ensures { λ m. ⌜ m ≡ S.resonanceMark r ⌝ }
+{
+    match r {
+        Resonance::None => 1,
+        Resonance::OneDay(_) => 2,
+        Resonance::HalfDay(_) => 3,
+    }
+}
+
+fn method_mark(method: Method) -> u32
+    ensures { λ m. ⌜ m ≡ S.methodMark method ⌝ }
+{
+    match method {
+        Method::NearEarth => 0,
+        Method::DeepSpace(d) => {
+            let i = d.integrator;
+            let r = i.resonance;
+            resonance_mark(r)
+        }
+    }
+}
+
+// Values from an index on.
+fn put(numbers: &mut [f64], at: usize, values: &[f64])
+    requires { ⌜ at + length (now values) ≤ length (now numbers) ⌝ }
+    ensures { λ _. ⌜ now (numbers .exit) ≡ sets (now (numbers .entry)) at (now (values .entry)) ⌝ }
+{
+    let mut i = 0;
+    while i < values.len() {
+        numbers[at + i] = values[i];
+        i += 1;
+    }
+}
+
+fn put_near(numbers: &mut [f64], n: NearEarth)
+    requires { ⌜ 83 ≤ length (now numbers) ⌝ }
+    ensures { λ _. ⌜ now (numbers .exit) ≡ sets (now (numbers .entry)) 2 (S.nearNumbers n) ⌝ }
+{
+    let el = n.elements;
+    let d = n.drag;
+    let h = n.higher;
+    let r = n.rates;
+    let t = n.terms;
+    let k = n.kept;
+    let orbit = orbit_numbers(el, d);
+    let terms = term_numbers(h, r, t, k);
+    put(numbers, 2, &orbit);
+    put(numbers, 18, &terms);
+}
+
+fn put_lunar_solar(numbers: &mut [f64], p: LunarSolar)
+    requires { ⌜ 83 ≤ length (now numbers) ⌝ }
+    ensures { λ _. ⌜ now (numbers .exit) ≡ sets (now (numbers .entry)) 41 (S.lunarSolarNumbers p) ⌝ }
+{
+    let sun = p.sun;
+    let moon = p.moon;
+    let s = periodics_numbers(sun);
+    let m = periodics_numbers(moon);
+    let z = [p.zmos, p.zmol];
+    put(numbers, 41, &s);
+    put(numbers, 53, &m);
+    put(numbers, 65, &z);
+}
+
+fn put_integrator(numbers: &mut [f64], i: Integrator)
+    requires { ⌜ 83 ≤ length (now numbers) ⌝ }
+    ensures { λ _. ⌜ now (numbers .exit) ≡ sets (now (numbers .entry)) 67 (S.integratorNumbers i) ⌝ }
+{
+    let r = i.resonance;
+    let six = [i.xlamo, i.xfact, i.no, i.argpo, i.argpdot, i.gsto];
+    let ten = coefficients(r);
+    put(numbers, 67, &six);
+    put(numbers, 73, &ten);
+}
+
+fn put_deep(numbers: &mut [f64], d: DeepSpace)
+    requires { ⌜ 83 ≤ length (now numbers) ⌝ }
+    ensures { λ _. ⌜ now (numbers .exit) ≡ sets (now (numbers .entry)) 36 (S.deepNumbers d) ⌝ }
+{
+    let r = d.rates;
+    let p = d.periodics;
+    let i = d.integrator;
+    let rates = [r.dedt, r.didt, r.dmdt, r.dnodt, r.domdt];
+    put(numbers, 36, &rates);
+    put_lunar_solar(numbers, p);
+    put_integrator(numbers, i);
+}
+
+// +0.0 for what a near-Earth satellite has not, so that nothing of an earlier one is left.
+fn put_method(numbers: &mut [f64], method: Method)
+    requires { ⌜ 83 ≤ length (now numbers) ⌝ }
+    ensures { λ _. ⌜ now (numbers .exit) ≡ sets (now (numbers .entry)) 36 (S.methodNumbers method) ⌝ }
+{
+    match method {
+        Method::NearEarth => {
+            let zeros = [0.0; 47];
+            put(numbers, 36, &zeros);
+        }
+        Method::DeepSpace(d) => put_deep(numbers, d),
+    }
+}
+
+fn put_model(numbers: &mut [f64], marks: &mut [u32], model: Model)
+    requires { ⌜ 83 ≤ length (now numbers) ⌝ }
+    requires { ⌜ 4 ≤ length (now marks) ⌝ }
+    ensures { λ _. ⌜ now (numbers .exit) ≡ sets (now (numbers .entry)) 2 (S.modelNumbers model) ⌝ }
+    ensures { λ _. ⌜ now (marks .exit) ≡ sets (now (marks .entry)) 2 (S.modelMarks model) ⌝ }
+{
+    let near = model.near;
+    let method = model.method;
+    put_near(numbers, near);
+    put_method(numbers, method);
+    marks[2] = near.isimp as u32;
+    marks[3] = method_mark(method);
+}
+
+fn put_place(numbers: &mut [f64], marks: &mut [u32], place: Place)
+    requires { ⌜ 83 ≤ length (now numbers) ⌝ }
+    requires { ⌜ 4 ≤ length (now marks) ⌝ }
+    ensures { λ _. ⌜ now (numbers .exit) ≡ sets (now (numbers .entry)) 0 (S.placeNumbers place) ⌝ }
+    ensures { λ _. ⌜ now (marks .exit) ≡ sets (now (marks .entry)) 0 (S.placeMarks place) ⌝ }
+{
+    let side = place.side;
+    let strides = place.strides;
+    numbers[0] = place.xli;
+    numbers[1] = place.xni;
+    marks[0] = side_mark(side);
+    marks[1] = strides.0;
+}
+
+// A satellite into the memory: 0, or refusal 17 with nothing written.
+pub fn store(s: Satellite, numbers: &mut [f64], marks: &mut [u32]) -> u8
+    ensures { λ r. ⌜ r ≡ S.storeRefusal (length (now (numbers .entry))) (length (now (marks .entry))) ⌝ }
+    ensures { λ _. ⌜ now (numbers .exit) ≡ S.storedNumbers s (now (numbers .entry)) (now (marks .entry)) ⌝ }
+    ensures { λ _. ⌜ now (marks .exit) ≡ S.storedMarks s (now (numbers .entry)) (now (marks .entry)) ⌝ }
+{
+    if numbers.len() < 83 {
+        return 17;
+    }
+    if marks.len() < 4 {
+        return 17;
+    }
+    let place = s.place;
+    let model = s.model;
+    put_place(numbers, marks, place);
+    put_model(numbers, marks, model);
+    0
+}
+
+// A saved position alone into the memory: 0, or refusal 17 with nothing written.
+pub fn store_place(place: Place, numbers: &mut [f64], marks: &mut [u32]) -> u8
+    ensures { λ r. ⌜ r ≡ S.storeRefusal (length (now (numbers .entry))) (length (now (marks .entry))) ⌝ }
+    ensures { λ _. ⌜ now (numbers .exit) ≡ S.placedNumbers place (now (numbers .entry)) (now (marks .entry)) ⌝ }
+    ensures { λ _. ⌜ now (marks .exit) ≡ S.placedMarks place (now (numbers .entry)) (now (marks .entry)) ⌝ }
+{
+    if numbers.len() < 83 {
+        return 17;
+    }
+    if marks.len() < 4 {
+        return 17;
+    }
+    put_place(numbers, marks, place);
+    0
+}

@@ -1,0 +1,229 @@
+/*
+ * Saddlekerf for C and C++: two-line element sets and SGP4, proved bit for bit.
+ *
+ * Link with libsaddlekerf.a (`rt staticlib saddlekerf` writes it; x86-64 Linux) and the C library
+ * with -lm, of which it calls memset and fmod alone; fmod is exact, so that no number depends on
+ * whose it is. Every function answers for all arguments that keep the rules of memory
+ * below: no other input is undefined.
+ *
+ * USE
+ *
+ *   saddlekerf_satellite s;
+ *   double state[SADDLEKERF_STATE];
+ *   uint64_t a = saddlekerf_satellite_open(&s, line1, 69, line2, 69);
+ *   if (saddlekerf_refusal(a) == SADDLEKERF_ANSWERED) {
+ *       a = saddlekerf_satellite_request(&s, 3600 * INT64_C(1000000), state);
+ *       ...
+ *   }
+ *
+ * A satellite is opened once and asked many times. It keeps the place of its resonance integrator
+ * between requests, which shortens the way and never changes a number: every position and velocity
+ * is the one that a satellite newly opened and asked only that time would give.
+ *
+ * UNITS AND FRAME
+ *
+ *   Times     microseconds since the epoch of the lines, negative before it, at most
+ *             SADDLEKERF_TIME_LIMIT (3,652 days of 86,400 s) either way.
+ *   Instants  microseconds since 1957 January 1, 0h, UTC, days of 86,400 s (saddlekerf_epoch).
+ *   States    position x, y, z in km, then velocity x, y, z in km/s, in the frame that SGP4
+ *             computes in: true equator, mean equinox (TEME). WGS-72 constants.
+ *
+ * MEMORY
+ *
+ *   An array is lent as a pointer and a number of elements (not of bytes). For the time of the call
+ *   the pointer must not be null, not even for 0 elements, must be aligned for its type and must
+ *   lead to that many elements; what is lent for reading must be initialised. What is lent for
+ *   writing (a pointer without const) must not overlap anything else that is lent to the same call,
+ *   and no other thread may touch it; what is lent for reading must not change.
+ *   Nothing is allocated, nothing is kept after the return, and there is no global state: calls on
+ *   different memory may run in any number of threads at once. A request writes the satellite, so
+ *   one satellite takes one call at a time; copy the struct to ask it in two threads.
+ *   A call that is refused with 1-8, 17 or 18 writes nothing.
+ *
+ * ANSWERS
+ *
+ *   Every function answers one 64-bit number:
+ *
+ *     bits  0-7   refusal number, 0 when answered (enum saddlekerf_refusal_number)
+ *     bits  8-15  line 1 or 2 (refusals 1-4); rounds of Kepler's equation (saddlekerf_request)
+ *     bits 16-31  column, counted from 1 (refusal 3); field (refusal 6 of lines)
+ *     bits 32-63  bytes written (saddlekerf_print); integrator strides (requests)
+ *
+ *   What is not named for a function and a refusal is 0. The functions below take an answer apart.
+ */
+#ifndef SADDLEKERF_H
+#define SADDLEKERF_H
+
+#include <stddef.h>
+#include <stdint.h>
+
+#ifdef __cplusplus
+extern "C" {
+#endif
+
+/* Elements of a satellite's memory. More may be lent; they are never touched. */
+#define SADDLEKERF_NUMBERS 83
+#define SADDLEKERF_MARKS 4
+
+/* Elements of one state. */
+#define SADDLEKERF_STATE 6
+
+/* The most times of one list. */
+#define SADDLEKERF_LIST_LIMIT 1024
+
+/* The farthest time from the epoch, in microseconds. */
+#define SADDLEKERF_TIME_LIMIT INT64_C(315532800000000)
+
+/* A buffer for saddlekerf_print that is never too short. */
+#define SADDLEKERF_PRINT_ROOM 900
+
+/* Refusal numbers. */
+enum saddlekerf_refusal_number {
+    SADDLEKERF_ANSWERED = 0,
+    SADDLEKERF_LENGTH = 1,                /* a line is not 69 bytes */
+    SADDLEKERF_START = 2,                 /* column 1 is not the line's number */
+    SADDLEKERF_COLUMN = 3,                /* a column breaks the layout */
+    SADDLEKERF_CHECKSUM = 4,              /* the checksum differs */
+    SADDLEKERF_CATALOGUE = 5,             /* the catalogue numbers of the lines differ */
+    SADDLEKERF_RANGE = 6,                 /* a field is out of its range */
+    SADDLEKERF_PERIGEE = 7,               /* perigee at epoch below one Earth radius */
+    SADDLEKERF_RECORD_NOT_FINITE = 8,     /* a number of the opened satellite is not finite */
+    SADDLEKERF_TIME = 9,                  /* time beyond 3,652 days */
+    SADDLEKERF_MEAN_MOTION = 10,          /* mean motion <= 0 */
+    SADDLEKERF_MEAN_ECCENTRICITY = 11,    /* mean e >= 1 or < -0.001, or axis < 0.95 */
+    SADDLEKERF_ECCENTRICITY = 12,         /* perturbed e < 0 or > 1 */
+    SADDLEKERF_SEMI_LATUS_RECTUM = 13,    /* semi-latus rectum < 0 */
+    SADDLEKERF_RADIUS = 14,               /* radius below one Earth radius */
+    SADDLEKERF_STATE_NOT_FINITE = 15,     /* a number of the state is not finite */
+    SADDLEKERF_RECORD = 16,               /* never given for lines: their record is always legal */
+    SADDLEKERF_ROOM = 17,                 /* lent memory too short */
+    SADDLEKERF_LIST = 18                  /* a list of more than 1,024 times */
+};
+
+/* The fields of refusal 6, in column order. */
+enum saddlekerf_field_number {
+    SADDLEKERF_FIELD_DAY = 1,
+    SADDLEKERF_FIELD_INCLINATION = 2,
+    SADDLEKERF_FIELD_NODE = 3,
+    SADDLEKERF_FIELD_PERIGEE = 4,
+    SADDLEKERF_FIELD_ANOMALY = 5,
+    SADDLEKERF_FIELD_MOTION = 6
+};
+
+/* ---- an answer taken apart ---- */
+
+static inline unsigned saddlekerf_refusal(uint64_t answer) { return (unsigned)(answer & 255); }
+static inline unsigned saddlekerf_line(uint64_t answer) { return (unsigned)(answer >> 8 & 255); }
+static inline unsigned saddlekerf_rounds(uint64_t answer) { return (unsigned)(answer >> 8 & 255); }
+static inline unsigned saddlekerf_column(uint64_t answer) { return (unsigned)(answer >> 16 & 65535); }
+static inline unsigned saddlekerf_field(uint64_t answer) { return (unsigned)(answer >> 16 & 65535); }
+static inline uint32_t saddlekerf_strides(uint64_t answer) { return (uint32_t)(answer >> 32); }
+static inline uint32_t saddlekerf_written(uint64_t answer) { return (uint32_t)(answer >> 32); }
+
+/* ---- lines ---- */
+
+/*
+ * Reads a pair. Lines may be any bytes of any length, without a line end.
+ * 0 where the pair is accepted; else the first refusal met, line 1 through 1-4, then line 2, then 5
+ * and 6:
+ *   1, 2, 4  with the line
+ *   3        with the line and the first column at which no lawful line agrees so far
+ *   5        with nothing
+ *   6        with the first field out of range
+ */
+uint64_t saddlekerf_read(const uint8_t *line1, size_t line1_length,
+                         const uint8_t *line2, size_t line2_length);
+
+/*
+ * Prints the fields of a pair, a line of text for each, or "refused" and the number where reading
+ * refuses it: both are answers. The text stands at the front of out, with no 0 byte after it; what
+ * lies past it stays. Answer: the bytes written; or 17.
+ */
+uint64_t saddlekerf_print(const uint8_t *line1, size_t line1_length,
+                          const uint8_t *line2, size_t line2_length,
+                          uint8_t *out, size_t out_length);
+
+/*
+ * The epoch of a pair as an instant, which goes into *instant. Answer: as saddlekerf_read. The time
+ * of an instant i, for requests, is i - *instant.
+ */
+uint64_t saddlekerf_epoch(const uint8_t *line1, size_t line1_length,
+                          const uint8_t *line2, size_t line2_length,
+                          uint64_t *instant);
+
+/* ---- a satellite ---- */
+
+/*
+ * Opens a pair: the satellite goes into the first 83 elements of numbers and the first 4 of marks.
+ * Answer: 0; 1-6 as saddlekerf_read; 7; 8; 17 where numbers or marks is too short.
+ * The memory may be copied and moved. Only what saddlekerf_open wrote and requests changed is a
+ * satellite of lines; requests take any other numbers too, and answer by the same rules.
+ */
+uint64_t saddlekerf_open(const uint8_t *line1, size_t line1_length,
+                         const uint8_t *line2, size_t line2_length,
+                         double *numbers, size_t numbers_length,
+                         uint32_t *marks, size_t marks_length);
+
+/*
+ * Asks for one time. Answered: position and velocity in the first 6 elements of state, and the
+ * Kepler rounds and the strides in the answer.
+ * Refused 9-15: state is not touched; the strides are in the answer, and after 10-15 the place
+ * reached is saved in the satellite. 17: the satellite's memory or state is too short.
+ */
+uint64_t saddlekerf_request(double *numbers, size_t numbers_length,
+                            uint32_t *marks, size_t marks_length,
+                            int64_t time,
+                            double *state, size_t state_length);
+
+/*
+ * Asks for a list of times, in order: for the time of index i, refusals[i] is its refusal number
+ * (0, or 9-15), states[6 * i] .. states[6 * i + 5] its position and velocity, rounds[i] its Kepler
+ * rounds. A refused row has six positive zeros and no rounds, and the list goes on. What lies past
+ * the last row stays. Answer: 0 with the strides of all rows together;
+ * 18 for more than 1,024 times; 17 where the satellite's memory, refusals or rounds (an element a
+ * row) or states (six) is too short.
+ */
+uint64_t saddlekerf_request_list(double *numbers, size_t numbers_length,
+                                 uint32_t *marks, size_t marks_length,
+                                 const int64_t *times, size_t times_length,
+                                 uint8_t *refusals, size_t refusals_length,
+                                 double *states, size_t states_length,
+                                 uint8_t *rounds, size_t rounds_length);
+
+/* ---- the same on a struct ---- */
+
+typedef struct saddlekerf_satellite {
+    double numbers[SADDLEKERF_NUMBERS];
+    uint32_t marks[SADDLEKERF_MARKS];
+} saddlekerf_satellite;
+
+static inline uint64_t saddlekerf_satellite_open(saddlekerf_satellite *s,
+                                                 const uint8_t *line1, size_t line1_length,
+                                                 const uint8_t *line2, size_t line2_length)
+{
+    return saddlekerf_open(line1, line1_length, line2, line2_length,
+                           s->numbers, SADDLEKERF_NUMBERS, s->marks, SADDLEKERF_MARKS);
+}
+
+/* state has SADDLEKERF_STATE elements */
+static inline uint64_t saddlekerf_satellite_request(saddlekerf_satellite *s, int64_t time, double *state)
+{
+    return saddlekerf_request(s->numbers, SADDLEKERF_NUMBERS, s->marks, SADDLEKERF_MARKS,
+                              time, state, SADDLEKERF_STATE);
+}
+
+/* times, refusals and rounds have count elements, states has 6 * count */
+static inline uint64_t saddlekerf_satellite_request_list(saddlekerf_satellite *s,
+                                                         const int64_t *times, size_t count,
+                                                         uint8_t *refusals, double *states, uint8_t *rounds)
+{
+    return saddlekerf_request_list(s->numbers, SADDLEKERF_NUMBERS, s->marks, SADDLEKERF_MARKS,
+                                   times, count, refusals, count,
+                                   states, SADDLEKERF_STATE * count, rounds, count);
+}
+
+#ifdef __cplusplus
+}
+#endif
+
+#endif
