@@ -103,6 +103,9 @@ fn branches(line1: &[u8], line2: &[u8], tally: &mut Tally) {
     if satrec.ecco > 0.9 {
         tally.add("branch: e above 0.9", 1);
     }
+    if record.inclination >= 179_9900 {
+        tally.add("branch: inclination 179.99 or more", 1);
+    }
     if satrec.deep && satrec.inclo < 0.2 {
         tally.add("branch: deep space, inclination below 0.2", 1);
     }
@@ -197,6 +200,8 @@ fn compare_pair(
         Err(refusal) => tally.add(format!("read: refusal {}", refusal.number()), 1),
     }
     same_or("reading", a == b, &a, &b)?;
+    let (a, b) = (one.epoch(line1, line2), other.epoch(line1, line2));
+    same_or("epoch", a == b, &a, &b)?;
     let (a, b) = (one.print(line1, line2), other.print(line1, line2));
     let text = |bytes: &[u8]| String::from_utf8_lossy(bytes).into_owned();
     same_or("printing", a == b, &text(&a), &text(&b))?;
@@ -215,7 +220,7 @@ fn compare_pair(
         (a, b) => {
             let (a, b) = (a.err(), b.err());
             if let Some(refusal) = a {
-                tally.add(format!("open: refusal {refusal}"), 1);
+                tally.add(format!("open: refusal {}", refusal.number()), 1);
             }
             same_or("opening", a == b, &a, &b)
         }
@@ -233,6 +238,9 @@ pub fn whole_case(
     let aim: Aim = AIMS[index as usize % AIMS.len()];
     let (line1, line2) = generate::pair(&mut random, aim);
     tally.add(format!("aim: {aim:?}"), 1);
+    if line2[8..16] == *b"180.0000" {
+        tally.add("pair: inclination 180.0000", 1);
+    }
     compare_pair(&mut random, &line1, &line2, libraries, tally).map_err(|what| Difference {
         case: format!("seed {seed}, whole pair {index} ({aim:?})"),
         line1: line1.escape_ascii().to_string(),

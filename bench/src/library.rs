@@ -2,22 +2,44 @@
 //! called over its C boundary, or one of the port's own.
 
 use crate::elementary::{Document, Elementary};
-use crate::instant::SPAN_LIMIT;
+use crate::instant::{self, SPAN_LIMIT};
 use crate::request::{Row, Satellite, LIST_LIMIT, STRIDE};
 use crate::tle::{self, Refusal};
 use std::hint::black_box;
 use std::marker::PhantomData;
 
+/// Why a pair is not opened: it is not read (1-6), or refused by number (7, 8).
+#[derive(Clone, Copy, Debug, PartialEq, Eq)]
+pub enum Unopened {
+    Unread(Refusal),
+    Refused(u8),
+}
+
+impl Unopened {
+    pub fn number(self) -> u8 {
+        match self {
+            Unopened::Unread(refusal) => refusal.number(),
+            Unopened::Refused(number) => number,
+        }
+    }
+}
+
 pub trait Library {
     fn name(&self) -> String;
     /// Reads a pair: accepted, or a refusal 1-6 with its values.
     fn read(&self, line1: &[u8], line2: &[u8]) -> Result<(), Refusal>;
+    /// The epoch of a pair, in microseconds from 1957; or as `read`.
+    fn epoch(&self, line1: &[u8], line2: &[u8]) -> Result<u64, Refusal>;
     /// What the program prints for a pair.
     fn print(&self, line1: &[u8], line2: &[u8]) -> Vec<u8>;
-    /// Reads and opens a pair; a refusal 1-8 by number.
-    fn open(&self, line1: &[u8], line2: &[u8]) -> Result<Box<dyn Opened>, u8>;
-    /// Reads and opens a pair and lets it go, for timing: the refusal, or 0.
-    fn try_open(&self, line1: &[u8], line2: &[u8]) -> u8;
+    /// Reads and opens a pair.
+    fn open(&self, line1: &[u8], line2: &[u8]) -> Result<Box<dyn Opened>, Unopened>;
+    /// For timing: reads a pair.
+    fn reader(&self, line1: &[u8], line2: &[u8]) -> Box<dyn Timed>;
+    /// For timing: reads and opens a pair into memory made ready before.
+    fn opener(&self, line1: &[u8], line2: &[u8]) -> Box<dyn Timed>;
+    /// For timing: asks a newly opened satellite for the times, its rooms made ready before.
+    fn lister(&self, line1: &[u8], line2: &[u8], times: &[i64]) -> Box<dyn Timed>;
 }
 
 pub trait Opened {
@@ -25,6 +47,13 @@ pub trait Opened {
     fn request(&mut self, micros: i64) -> (Row, u64);
     /// Rows to the front of the room lent, and the strides reported; or 18, 17.
     fn list(&mut self, times: &[i64], rows: &mut [Row]) -> Result<u64, u8>;
+}
+
+/// One call to be timed. All it needs is made ready outside of `run`.
+pub trait Timed {
+    /// Puts everything back to where it was before the first run. Not timed.
+    fn renew(&mut self);
+    fn run(&mut self);
 }
 
 /// The port, resuming from its saved position.
@@ -42,9 +71,9 @@ impl<E> Default for Port<E> {
     }
 }
 
-impl<E: Elementary + 'static> Library for Port<E> {
+impl<E: Elementary + Copy + 'static> Library for Port<E> {
     fn name(&self) -> String {
-        format!("port, {}", E::NAME)
+        format!("port ({})", E::NAME)
     }
 
     fn read(&self, line1: &[u8], line2: &[u8]) -> Result<(), Refusal> {
@@ -55,15 +84,83 @@ impl<E: Elementary + 'static> Library for Port<E> {
         tle::print(line1, line2).into_bytes()
     }
 
-    fn open(&self, line1: &[u8], line2: &[u8]) -> Result<Box<dyn Opened>, u8> {
-        let record = tle::read(line1, line2).map_err(Refusal::number)?;
-        Ok(Box::new(Satellite::<E>::open(&record)?))
+    fn epoch(&self, line1: &[u8], line2: &[u8]) -> Result<u64, Refusal> {
+        let record = tle::read(line1, line2)?;
+        let micros = instant::from_epoch(record.year as i64, record.day as i64);
+        Ok(micros.expect("an epoch that can be read lies in the calendar") as u64)
     }
 
-    fn try_open(&self, line1: &[u8], line2: &[u8]) -> u8 {
-        let opened =
-            tle::read(line1, line2).map_err(Refusal::number).and_then(|record| Satellite::<E>::open(&record));
-        black_box(&opened).as_ref().err().copied().unwrap_or(0)
+    fn open(&self, line1: &[u8], line2: &[u8]) -> Result<Box<dyn Opened>, Unopened> {
+        Ok(Box::new(opened::<E>(line1, line2)?))
+    }
+
+    fn reader(&self, line1: &[u8], line2: &[u8]) -> Box<dyn Timed> {
+        Box::new(Reader { line1: line1.to_vec(), line2: line2.to_vec() })
+    }
+
+    fn opener(&self, line1: &[u8], line2: &[u8]) -> Box<dyn Timed> {
+        Box::new(Opener::<E> { line1: line1.to_vec(), line2: line2.to_vec(), satellite: None })
+    }
+
+    fn lister(&self, line1: &[u8], line2: &[u8], times: &[i64]) -> Box<dyn Timed> {
+        let fresh = opened::<E>(line1, line2).expect("a pair that opens");
+        Box::new(Lister {
+            satellite: fresh,
+            fresh,
+            times: times.to_vec(),
+            rows: vec![Row::EMPTY; times.len()],
+        })
+    }
+}
+
+fn opened<E: Elementary>(line1: &[u8], line2: &[u8]) -> Result<Satellite<E>, Unopened> {
+    let record = tle::read(line1, line2).map_err(Unopened::Unread)?;
+    Satellite::open(&record).map_err(Unopened::Refused)
+}
+
+struct Reader {
+    line1: Vec<u8>,
+    line2: Vec<u8>,
+}
+
+impl Timed for Reader {
+    fn renew(&mut self) {}
+
+    fn run(&mut self) {
+        let _ = black_box(tle::read(black_box(&self.line1), black_box(&self.line2)));
+    }
+}
+
+struct Opener<E> {
+    line1: Vec<u8>,
+    line2: Vec<u8>,
+    satellite: Option<Satellite<E>>,
+}
+
+impl<E: Elementary> Timed for Opener<E> {
+    fn renew(&mut self) {}
+
+    fn run(&mut self) {
+        self.satellite = opened(black_box(&self.line1), black_box(&self.line2)).ok();
+        black_box(&mut self.satellite);
+    }
+}
+
+struct Lister<S> {
+    fresh: S,
+    satellite: S,
+    times: Vec<i64>,
+    rows: Vec<Row>,
+}
+
+impl<S: Opened + Copy> Timed for Lister<S> {
+    fn renew(&mut self) {
+        self.satellite = self.fresh;
+    }
+
+    fn run(&mut self) {
+        let strides = self.satellite.list(black_box(&self.times), &mut self.rows);
+        black_box((strides.expect("a lawful list"), &mut self.rows));
     }
 }
 
@@ -93,15 +190,16 @@ impl<E> Default for Restarting<E> {
     }
 }
 
+#[derive(Clone, Copy)]
 struct RestartingSatellite<E> {
     satellite: Satellite<E>,
     /// The last in-range time of the sequence so far.
     last: Option<i64>,
 }
 
-impl<E: Elementary + 'static> Library for Restarting<E> {
+impl<E: Elementary + Copy + 'static> Library for Restarting<E> {
     fn name(&self) -> String {
-        format!("port restarting, {}", E::NAME)
+        format!("port restarting ({})", E::NAME)
     }
 
     fn read(&self, line1: &[u8], line2: &[u8]) -> Result<(), Refusal> {
@@ -112,13 +210,31 @@ impl<E: Elementary + 'static> Library for Restarting<E> {
         self.0.print(line1, line2)
     }
 
-    fn open(&self, line1: &[u8], line2: &[u8]) -> Result<Box<dyn Opened>, u8> {
-        let record = tle::read(line1, line2).map_err(Refusal::number)?;
-        Ok(Box::new(RestartingSatellite { satellite: Satellite::<E>::open(&record)?, last: None }))
+    fn epoch(&self, line1: &[u8], line2: &[u8]) -> Result<u64, Refusal> {
+        self.0.epoch(line1, line2)
     }
 
-    fn try_open(&self, line1: &[u8], line2: &[u8]) -> u8 {
-        self.0.try_open(line1, line2)
+    fn open(&self, line1: &[u8], line2: &[u8]) -> Result<Box<dyn Opened>, Unopened> {
+        Ok(Box::new(RestartingSatellite { satellite: opened::<E>(line1, line2)?, last: None }))
+    }
+
+    fn reader(&self, line1: &[u8], line2: &[u8]) -> Box<dyn Timed> {
+        self.0.reader(line1, line2)
+    }
+
+    fn opener(&self, line1: &[u8], line2: &[u8]) -> Box<dyn Timed> {
+        self.0.opener(line1, line2)
+    }
+
+    fn lister(&self, line1: &[u8], line2: &[u8], times: &[i64]) -> Box<dyn Timed> {
+        let satellite = opened::<E>(line1, line2).expect("a pair that opens");
+        let fresh = RestartingSatellite { satellite, last: None };
+        Box::new(Lister {
+            satellite: fresh,
+            fresh,
+            times: times.to_vec(),
+            rows: vec![Row::EMPTY; times.len()],
+        })
     }
 }
 

@@ -1,16 +1,18 @@
-//! Times the libraries side by side in one run and prints their ratios.
+//! Times the proved library and the port side by side in one run, and prints
+//! their ratios as a table in Markdown.
 //!
 //!   benchmark [--rounds N]
 //!
 //! Every library takes its turn in every round, and its best round counts: what
-//! else the machine does slows some rounds down, never one library alone.
+//! else the machine does slows some rounds down, never one library alone. Only
+//! the call itself is timed. Lines, times, satellites and rooms for rows are
+//! made ready before, and the library's rows stay in the three rooms it fills.
 
-use port::elementary::{Document, DocumentProcessor, Libm};
-use port::library::{Library, Port, Restarting};
-use port::proved;
+use port::elementary::{DocumentProcessor, Libm};
+use port::library::{Library, Port, Restarting, Timed};
+use port::proved::Proved;
 use port::published;
-use port::request::{Row, LIST_LIMIT};
-use std::hint::black_box;
+use port::request::LIST_LIMIT;
 use std::time::Instant;
 
 const DAY: i64 = port::instant::DAY;
@@ -29,96 +31,94 @@ fn grid(days: i64) -> Vec<i64> {
     (0..LIST_LIMIT as i64).map(|i| i * (days * DAY / LIST_LIMIT as i64)).collect()
 }
 
-/// The libraries timed; the first is what the ratios are taken of, if linked.
-fn libraries() -> Vec<Box<dyn Library>> {
-    let port: [Box<dyn Library>; 5] = [
-        Box::new(Port::<Document>::new()),
-        Box::new(Port::<DocumentProcessor>::new()),
+/// The libraries timed; ratios are the first one's time over another's. The
+/// port has the processor's square root throughout, and in its last form the
+/// other functions as document 01 has them.
+fn libraries() -> [Box<dyn Library>; 4] {
+    [
+        Box::new(Proved),
         Box::new(Port::<Libm>::new()),
-        Box::new(Restarting::<Document>::new()),
         Box::new(Restarting::<Libm>::new()),
-    ];
-    proved::library().into_iter().chain(port).collect()
+        Box::new(Port::<DocumentProcessor>::new()),
+    ]
 }
 
-/// The best time of each library, in nanoseconds per item.
-fn race(
-    libraries: &[Box<dyn Library>],
-    rounds: usize,
-    items: usize,
-    mut run: impl FnMut(&dyn Library),
-) -> Vec<f64> {
-    let mut best = vec![f64::INFINITY; libraries.len()];
+/// The best time of each, in nanoseconds per item; a run is so many items.
+fn race(timed: &mut [Box<dyn Timed>], rounds: usize, runs: usize, items: usize) -> Vec<f64> {
+    let mut best = vec![f64::INFINITY; timed.len()];
     for _ in 0..rounds {
-        for (place, library) in libraries.iter().enumerate() {
+        for (best, timed) in best.iter_mut().zip(&mut *timed) {
+            timed.renew();
             let start = Instant::now();
-            run(library.as_ref());
-            let nanoseconds = start.elapsed().as_nanos() as f64 / items as f64;
-            best[place] = best[place].min(nanoseconds);
+            for _ in 0..runs {
+                timed.run();
+            }
+            let nanoseconds = start.elapsed().as_nanos() as f64 / (runs * items) as f64;
+            *best = best.min(nanoseconds);
         }
     }
     best
 }
 
-/// One line of the table: nanoseconds for each library, and the ratio to port libm.
-fn show(label: &str, libm: usize, best: &[f64]) {
-    print!("{label:<32}");
-    for nanoseconds in best {
-        print!(" {nanoseconds:>10.1} {:>6.2}", nanoseconds / best[libm]);
+/// One line of the table: the library's time, how many that is a second, and
+/// for each other library its time and the ratio.
+fn show(label: &str, best: &[f64]) {
+    let (proved, others) = (best[0], &best[1..]);
+    print!("| {label} | {proved:.1} | {} |", grouped((1e9 / proved) as u64));
+    for other in others {
+        print!(" {other:.1} | {:.2} |", proved / other);
     }
+    println!();
+}
+
+/// A whole number with a comma before each three digits.
+fn grouped(number: u64) -> String {
+    let digits = number.to_string();
+    let mut text = String::new();
+    for (place, digit) in digits.chars().enumerate() {
+        if place > 0 && (digits.len() - place).is_multiple_of(3) {
+            text.push(',');
+        }
+        text.push(digit);
+    }
+    text
+}
+
+fn heading(names: &[String]) {
+    print!("| | {}: ns | a second |", names[0]);
+    names[1..].iter().for_each(|name| print!(" {name}: ns | ratio |"));
+    print!("\n|---|---:|---:|");
+    names[1..].iter().for_each(|_| print!("---:|---:|"));
     println!();
 }
 
 fn main() {
     let arguments: Vec<String> = std::env::args().collect();
     let rounds = match arguments.iter().position(|argument| argument == "--rounds") {
-        Some(place) => arguments[place + 1].parse().expect("--rounds NUMBER"),
+        Some(place) => arguments.get(place + 1).and_then(|text| text.parse().ok()).expect("--rounds NUMBER"),
         None => 40,
     };
     let libraries = libraries();
-    let names: Vec<String> = libraries.iter().map(|library| library.name()).collect();
-    let libm = names.iter().position(|name| name == "port, libm").unwrap();
     println!(
-        "Nanoseconds per row, opening or reading (best of {rounds} rounds), and the ratio to {}.",
-        names[libm]
+        "Nanoseconds per row, opening or reading, the best of {rounds} rounds. A ratio is the proved\n\
+         library's time over the other's: below 1 the library is the faster one.\n"
     );
-    for (place, name) in names.iter().enumerate() {
-        println!("  [{place}] {name}");
-    }
-    print!("{:<32}", "");
-    for place in 0..names.len() {
-        print!(" {:>10}       ", format!("[{place}]"));
-    }
-    println!();
-
-    let mut rows = vec![Row::EMPTY; LIST_LIMIT];
+    heading(&libraries.each_ref().map(|library| library.name()));
     for (days, title) in [(1, "a day's grid"), (100, "100 days outward")] {
         let times = grid(days);
         for (kind, catalogue) in SATELLITES {
             let (line1, line2) = pair(catalogue);
-            let best = race(&libraries, rounds, LIST_LIMIT, |library| {
-                let mut satellite = library.open(&line1, &line2).expect("a published pair opens");
-                black_box(satellite.list(&times, &mut rows).expect("a lawful list"));
-                black_box(&mut rows);
-            });
-            show(&format!("{title}, {kind}"), libm, &best);
+            let mut timed = libraries.each_ref().map(|library| library.lister(&line1, &line2, &times));
+            show(&format!("{title}, {kind}"), &race(&mut timed, rounds, 1, LIST_LIMIT));
         }
     }
-    const REPEATS: usize = 1000;
+    const RUNS: usize = 400;
     for (kind, catalogue) in SATELLITES {
         let (line1, line2) = pair(catalogue);
-        let best = race(&libraries, rounds, REPEATS, |library| {
-            for _ in 0..REPEATS {
-                black_box(library.try_open(black_box(&line1), black_box(&line2)));
-            }
-        });
-        show(&format!("opening from lines, {kind}"), libm, &best);
+        let mut timed = libraries.each_ref().map(|library| library.opener(&line1, &line2));
+        show(&format!("opening from lines, {kind}"), &race(&mut timed, rounds, RUNS, 1));
     }
     let (line1, line2) = pair("06251");
-    let best = race(&libraries, rounds, REPEATS, |library| {
-        for _ in 0..REPEATS {
-            let _ = black_box(library.read(black_box(&line1), black_box(&line2)));
-        }
-    });
-    show("reading a pair", libm, &best);
+    let mut timed = libraries.each_ref().map(|library| library.reader(&line1, &line2));
+    show("reading a pair", &race(&mut timed, rounds, RUNS, 1));
 }

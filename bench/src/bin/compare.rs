@@ -1,5 +1,4 @@
-//! Holds the proved library against the port (or, while it is not linked, the
-//! port's two ways of integrating against each other), bit for bit.
+//! Holds the proved library against the port, bit for bit: the long run.
 //!
 //!   compare [--seed N] [--whole N] [--damaged N] [--first N]
 //!
@@ -9,8 +8,8 @@
 
 use port::compare::{damaged_case, whole_case, Difference, Tally};
 use port::elementary::Document;
-use port::library::{Library, Port, Restarting};
-use port::proved;
+use port::library::{Library, Port};
+use port::proved::Proved;
 use std::process::ExitCode;
 
 fn option(name: &str, default: u64) -> u64 {
@@ -29,16 +28,14 @@ fn run() -> Result<Tally, Difference> {
     let (whole, damaged, first) =
         (option("--whole", 20_000), option("--damaged", 20_000), option("--first", 0));
     let port: Port<Document> = Port::new();
-    let other: Box<dyn Library> =
-        proved::library().unwrap_or_else(|| Box::new(Restarting::<Document>::new()));
-    println!("{} against {}", port.name(), other.name());
+    println!("{} against {}", port.name(), Proved.name());
     println!("seed {seed}, {whole} whole pairs, {damaged} damaged pairs, from case {first}");
     let mut tally = Tally::default();
     for index in first..first + whole {
-        whole_case(seed, index, (&port, other.as_ref()), &mut tally)?;
+        whole_case(seed, index, (&port, &Proved), &mut tally)?;
     }
     for index in first..first + damaged {
-        damaged_case(seed, index, (&port, other.as_ref()), &mut tally)?;
+        damaged_case(seed, index, (&port, &Proved), &mut tally)?;
     }
     Ok(tally)
 }

@@ -1,0 +1,193 @@
+//! The functions of include/saddlekerf.h, and the only unsafe code of this package.
+//!
+//! Each safe function below lends slices, as their pointer and their number of elements. A slice's
+//! pointer is aligned, never null and leads to that many initialised elements; a shared slice does
+//! not change and a mutable one overlaps nothing else for the time of the call: these are the
+//! header's rules of memory, and the library keeps nothing after the return.
+
+use crate::{Microseconds, State};
+
+/// Elements of a satellite's memory.
+pub const NUMBERS: usize = 83;
+pub const MARKS: usize = 4;
+
+/// f64s of one state.
+const STATE: usize = 6;
+
+// A state is lent as six f64s and a time as an i64.
+const _: () = assert!(size_of::<State>() == STATE * size_of::<f64>());
+const _: () = assert!(align_of::<State>() == align_of::<f64>());
+const _: () = assert!(size_of::<Microseconds>() == size_of::<i64>());
+const _: () = assert!(align_of::<Microseconds>() == align_of::<i64>());
+
+mod c {
+    extern "C" {
+        pub fn saddlekerf_read(
+            line1: *const u8,
+            line1_length: usize,
+            line2: *const u8,
+            line2_length: usize,
+        ) -> u64;
+
+        pub fn saddlekerf_print(
+            line1: *const u8,
+            line1_length: usize,
+            line2: *const u8,
+            line2_length: usize,
+            out: *mut u8,
+            out_length: usize,
+        ) -> u64;
+
+        pub fn saddlekerf_epoch(
+            line1: *const u8,
+            line1_length: usize,
+            line2: *const u8,
+            line2_length: usize,
+            instant: *mut u64,
+        ) -> u64;
+
+        pub fn saddlekerf_open(
+            line1: *const u8,
+            line1_length: usize,
+            line2: *const u8,
+            line2_length: usize,
+            numbers: *mut f64,
+            numbers_length: usize,
+            marks: *mut u32,
+            marks_length: usize,
+        ) -> u64;
+
+        pub fn saddlekerf_request(
+            numbers: *mut f64,
+            numbers_length: usize,
+            marks: *mut u32,
+            marks_length: usize,
+            time: i64,
+            state: *mut f64,
+            state_length: usize,
+        ) -> u64;
+
+        pub fn saddlekerf_request_list(
+            numbers: *mut f64,
+            numbers_length: usize,
+            marks: *mut u32,
+            marks_length: usize,
+            times: *const i64,
+            times_length: usize,
+            refusals: *mut u8,
+            refusals_length: usize,
+            states: *mut f64,
+            states_length: usize,
+            rounds: *mut u8,
+            rounds_length: usize,
+        ) -> u64;
+    }
+}
+
+pub fn read(line1: &[u8], line2: &[u8]) -> u64 {
+    // SAFETY: both lines are slices, lent for reading.
+    unsafe { c::saddlekerf_read(line1.as_ptr(), line1.len(), line2.as_ptr(), line2.len()) }
+}
+
+pub fn print(line1: &[u8], line2: &[u8], out: &mut [u8]) -> u64 {
+    // SAFETY: all three are slices; `out` is mutable, so that it overlaps neither line.
+    unsafe {
+        c::saddlekerf_print(
+            line1.as_ptr(),
+            line1.len(),
+            line2.as_ptr(),
+            line2.len(),
+            out.as_mut_ptr(),
+            out.len(),
+        )
+    }
+}
+
+pub fn epoch(line1: &[u8], line2: &[u8], instant: &mut u64) -> u64 {
+    // SAFETY: both lines are slices; `instant` is a mutable reference to one u64.
+    unsafe { c::saddlekerf_epoch(line1.as_ptr(), line1.len(), line2.as_ptr(), line2.len(), instant) }
+}
+
+pub fn open(line1: &[u8], line2: &[u8], numbers: &mut [f64], marks: &mut [u32]) -> u64 {
+    // SAFETY: all four are slices, the last two mutable, so that they overlap nothing.
+    unsafe {
+        c::saddlekerf_open(
+            line1.as_ptr(),
+            line1.len(),
+            line2.as_ptr(),
+            line2.len(),
+            numbers.as_mut_ptr(),
+            numbers.len(),
+            marks.as_mut_ptr(),
+            marks.len(),
+        )
+    }
+}
+
+pub fn request(numbers: &mut [f64], marks: &mut [u32], time: Microseconds, state: &mut State) -> u64 {
+    // SAFETY: two mutable slices, and a mutable state, which is six f64s (asserted above) in a
+    // `repr(C)` struct of nothing else.
+    unsafe {
+        c::saddlekerf_request(
+            numbers.as_mut_ptr(),
+            numbers.len(),
+            marks.as_mut_ptr(),
+            marks.len(),
+            time.0,
+            std::ptr::from_mut(state).cast(),
+            STATE,
+        )
+    }
+}
+
+pub fn request_list(
+    numbers: &mut [f64],
+    marks: &mut [u32],
+    times: &[Microseconds],
+    refusals: &mut [u8],
+    states: &mut [State],
+    rounds: &mut [u8],
+) -> u64 {
+    // SAFETY: slices, all but `times` mutable, so that none overlaps another. A time is an i64
+    // (`repr(transparent)`) and a state six f64s (`repr(C)`); six times their number is no overflow,
+    // for a slice has at most isize::MAX bytes. Any f64 and any u8 is a value of its place.
+    unsafe {
+        c::saddlekerf_request_list(
+            numbers.as_mut_ptr(),
+            numbers.len(),
+            marks.as_mut_ptr(),
+            marks.len(),
+            times.as_ptr().cast(),
+            times.len(),
+            refusals.as_mut_ptr(),
+            refusals.len(),
+            states.as_mut_ptr().cast(),
+            STATE * states.len(),
+            rounds.as_mut_ptr(),
+            rounds.len(),
+        )
+    }
+}
+
+#[cfg(test)]
+mod tests {
+    use super::*;
+    use crate::{Satellite, PRINT_ROOM};
+
+    /// The numbers written here are the header's.
+    #[test]
+    fn numbers_of_the_header() {
+        let header = include_str!("../../include/saddlekerf.h");
+        let defined = |name: &str| {
+            let start = format!("#define SADDLEKERF_{name} ");
+            let value = header.lines().find_map(|line| line.strip_prefix(&start)).expect(name);
+            value.trim_start_matches("INT64_C(").trim_end_matches(')').parse::<i64>().expect(name)
+        };
+        assert_eq!(defined("NUMBERS"), NUMBERS as i64);
+        assert_eq!(defined("MARKS"), MARKS as i64);
+        assert_eq!(defined("STATE"), STATE as i64);
+        assert_eq!(defined("LIST_LIMIT"), Satellite::LIST_LIMIT as i64);
+        assert_eq!(defined("PRINT_ROOM"), PRINT_ROOM as i64);
+        assert_eq!(defined("TIME_LIMIT"), Microseconds::LIMIT.0);
+    }
+}

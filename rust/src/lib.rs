@@ -1,0 +1,87 @@
+//! Two-line element sets and SGP4, proved bit for bit.
+//!
+//! A safe wrapper of the proved library, which `rt staticlib saddlekerf` writes as an archive for
+//! x86-64 Linux. It adds types and borrows, no arithmetic: every number comes out of the archive.
+//!
+//! ```
+//! use saddlekerf::{Microseconds, Refusal, Satellite};
+//!
+//! # fn main() -> Result<(), Refusal> {
+//! let line1 = b"1 00005U 58002B   00179.78495062  .00000023  00000-0  28098-4 0  4753";
+//! let line2 = b"2 00005  34.2682 348.7242 1859667 331.7664  19.3264 10.82419157413667";
+//! let mut satellite = Satellite::open(line1, line2)?;
+//! let state = satellite.at(Microseconds::from_minutes(360))?;
+//! assert_eq!(state.position[0], -7154.031202015703);
+//! # Ok(())
+//! # }
+//! ```
+//!
+//! A list of times goes into memory that the caller lends:
+//!
+//! ```
+//! use saddlekerf::{Microseconds, Refusal, Rooms, Satellite, State};
+//!
+//! # fn main() -> Result<(), Refusal> {
+//! # let line1 = b"1 00005U 58002B   00179.78495062  .00000023  00000-0  28098-4 0  4753";
+//! # let line2 = b"2 00005  34.2682 348.7242 1859667 331.7664  19.3264 10.82419157413667";
+//! let mut satellite = Satellite::open(line1, line2)?;
+//! let times = [Microseconds::from_minutes(0), Microseconds(i64::MAX)];
+//! let mut rooms =
+//!     Rooms { refusals: &mut [0; 2], states: &mut [State::default(); 2], rounds: &mut [0; 2] };
+//! satellite.list(&times, &mut rooms)?;
+//! assert!(rooms.row(0).is_ok());
+//! assert_eq!(rooms.row(1), Err(Refusal::Time));
+//! # Ok(())
+//! # }
+//! ```
+//!
+//! Lines are any bytes at all, without a line end. They get an answer or exactly one [`Refusal`],
+//! with the line and the first column at fault.
+
+#![deny(unsafe_code, missing_debug_implementations)]
+
+#[allow(unsafe_code)]
+mod ffi;
+mod refusal;
+mod satellite;
+mod time;
+
+pub use refusal::{Field, Line, Refusal};
+pub use satellite::{Answer, Rooms, Row, Satellite, State};
+pub use time::{Instant, Microseconds, Strides};
+
+use refusal::Answer as Packed;
+
+/// The bytes of a buffer for [`print`] that is never too short.
+pub const PRINT_ROOM: usize = 900;
+
+/// Reads a pair: accepted, or a refusal 1 to 6.
+pub fn read(line1: &[u8], line2: &[u8]) -> Result<(), Refusal> {
+    Packed(ffi::read(line1, line2)).refusal()
+}
+
+/// Prints the fields of a pair, one a line, at the front of `out`, and returns the part written; or
+/// refusal 17. A pair that is not read prints `refused` and its number.
+pub fn print<'a>(line1: &[u8], line2: &[u8], out: &'a mut [u8]) -> Result<&'a mut [u8], Refusal> {
+    let answer = Packed(ffi::print(line1, line2, out));
+    answer.refusal()?;
+    Ok(&mut out[..answer.count() as usize])
+}
+
+/// What [`print`] prints, as a new string.
+///
+/// ```
+/// assert_eq!(saddlekerf::printed(b"", b""), "refused 1\n");
+/// ```
+pub fn printed(line1: &[u8], line2: &[u8]) -> String {
+    let mut out = [0; PRINT_ROOM];
+    let text = print(line1, line2, &mut out).expect("a room that is never too short");
+    String::from_utf8(text.to_vec()).expect("letters, digits, blanks and signs")
+}
+
+/// The epoch of a pair; or a refusal 1 to 6.
+pub fn epoch(line1: &[u8], line2: &[u8]) -> Result<Instant, Refusal> {
+    let mut instant = 0;
+    Packed(ffi::epoch(line1, line2, &mut instant)).refusal()?;
+    Ok(Instant(instant))
+}

@@ -1,0 +1,118 @@
+//! An opened satellite, and requests to it.
+
+use crate::ffi;
+use crate::refusal::{Answer as Packed, Refusal};
+use crate::{Microseconds, Strides};
+
+/// Position and velocity in SGP4's own frame: true equator, mean equinox (TEME).
+#[derive(Clone, Copy, Debug, Default, PartialEq)]
+#[repr(C)]
+pub struct State {
+    /// x, y, z in km.
+    pub position: [f64; 3],
+    /// x, y, z in km/s.
+    pub velocity: [f64; 3],
+}
+
+/// What a time that is not refused gives.
+#[derive(Clone, Copy, Debug, PartialEq)]
+pub struct Row {
+    pub state: State,
+    /// Rounds that Kepler's equation took, 1 to 10.
+    pub rounds: u8,
+}
+
+/// The answer to one time.
+#[derive(Clone, Copy, Debug, PartialEq)]
+pub struct Answer {
+    /// The row, or a refusal 9 to 15.
+    pub row: Result<Row, Refusal>,
+    /// Strides that the resonance integrator took for it, refused or not.
+    pub strides: Strides,
+}
+
+/// Memory that a caller lends for the rows of a list: an element for each row in each of the three.
+///
+/// Row i of a list is `refusals[i]` (0 when answered), `states[i]` and `rounds[i]`; a refused row has
+/// a zero state and no rounds. [`row`](Rooms::row) puts them together.
+#[derive(Debug)]
+pub struct Rooms<'a> {
+    pub refusals: &'a mut [u8],
+    pub states: &'a mut [State],
+    pub rounds: &'a mut [u8],
+}
+
+impl Rooms<'_> {
+    /// Row `index` of the list last asked.
+    ///
+    /// # Panics
+    ///
+    /// Where a room has no such element, or `refusals` holds what no list writes.
+    pub fn row(&self, index: usize) -> Result<Row, Refusal> {
+        Packed(self.refusals[index] as u64).refusal()?;
+        Ok(Row { state: self.states[index], rounds: self.rounds[index] })
+    }
+}
+
+/// A satellite opened from two lines.
+///
+/// It keeps the place of its resonance integrator between requests, which shortens the way and never
+/// changes a number: every row is the one that a satellite newly opened and asked only that time
+/// would give. A clone is asked on its own.
+#[derive(Clone, Debug)]
+pub struct Satellite {
+    numbers: [f64; ffi::NUMBERS],
+    marks: [u32; ffi::MARKS],
+}
+
+impl Satellite {
+    /// The most times of one list.
+    pub const LIST_LIMIT: usize = 1024;
+
+    /// Reads and opens two lines; or a refusal 1 to 8.
+    ///
+    /// ```
+    /// use saddlekerf::Satellite;
+    ///
+    /// let line1 = b"1 00005U 58002B   00179.78495062  .00000023  00000-0  28098-4 0  4753";
+    /// let line2 = b"2 00005  34.2682 348.7242 1859667 331.7664  19.3264 10.82419157413667";
+    /// assert!(Satellite::open(line1, line2).is_ok());
+    /// assert_eq!(Satellite::open(line1, line1).unwrap_err().number(), 2);
+    /// ```
+    pub fn open(line1: &[u8], line2: &[u8]) -> Result<Satellite, Refusal> {
+        let mut satellite = Satellite { numbers: [0.0; ffi::NUMBERS], marks: [0; ffi::MARKS] };
+        satellite.reopen(line1, line2)?;
+        Ok(satellite)
+    }
+
+    /// Opens other lines in this satellite's memory. Where they are refused it stays as it was.
+    pub fn reopen(&mut self, line1: &[u8], line2: &[u8]) -> Result<(), Refusal> {
+        Packed(ffi::open(line1, line2, &mut self.numbers, &mut self.marks)).refusal()
+    }
+
+    /// Position and velocity at a time since the epoch; or a refusal 9 to 15.
+    pub fn at(&mut self, time: Microseconds) -> Result<State, Refusal> {
+        self.request(time).row.map(|row| row.state)
+    }
+
+    /// Asks for one time: its row and the strides taken.
+    pub fn request(&mut self, time: Microseconds) -> Answer {
+        let mut state = State::default();
+        let answer = Packed(ffi::request(&mut self.numbers, &mut self.marks, time, &mut state));
+        let row = answer.refusal().map(|()| Row { state, rounds: answer.rounds() });
+        Answer { row, strides: Strides(answer.count()) }
+    }
+
+    /// Asks for a list of times, in order: a row for each to the front of the rooms, and the strides
+    /// of all together. Rows are refused one by one, and the list goes on.
+    ///
+    /// The list as a whole is refused with 18 where it has more than [`LIST_LIMIT`](Self::LIST_LIMIT)
+    /// times and with 17 where a room is too short; then nothing is written and the satellite stays
+    /// as it was.
+    pub fn list(&mut self, times: &[Microseconds], rooms: &mut Rooms<'_>) -> Result<Strides, Refusal> {
+        let Rooms { refusals, states, rounds } = rooms;
+        let answer =
+            Packed(ffi::request_list(&mut self.numbers, &mut self.marks, times, refusals, states, rounds));
+        answer.refusal().map(|()| Strides(answer.count()))
+    }
+}

@@ -1,0 +1,300 @@
+//! Document 01's example, its cases at the edges, and what lent memory holds afterwards.
+
+use saddlekerf::{epoch, print, printed, read};
+use saddlekerf::{Field, Instant, Line, Microseconds, Refusal, Rooms, Row, Satellite, State, Strides};
+
+const LINE1: &[u8] = b"1 00005U 58002B   00179.78495062  .00000023  00000-0  28098-4 0  4753";
+const LINE2: &[u8] = b"2 00005  34.2682 348.7242 1859667 331.7664  19.3264 10.82419157413667";
+
+/// Resonant pairs of the published set: half-day and one-day.
+const RESONANT: [[&[u8]; 2]; 2] = [
+    [
+        b"1 08195U 75081A   06176.33215444  .00000099  00000-0  11873-3 0   813",
+        b"2 08195  64.1586 279.0717 6877146 264.7651  20.2257  2.00491383225656",
+    ],
+    [
+        b"1 24208U 96044A   06177.04061740 -.00000094  00000-0  10000-3 0  1600",
+        b"2 24208   3.8536  80.0121 0026640 311.0977  48.3000  1.00778054 36119",
+    ],
+];
+
+const LIMIT: i64 = Microseconds::LIMIT.0;
+const STRIDE: i64 = 43_200_000_000;
+
+/// A line with other text from a column on, its checksum mended.
+fn with(line: &[u8], column: usize, text: &[u8]) -> Vec<u8> {
+    let mut line = line.to_vec();
+    line[column - 1..column - 1 + text.len()].copy_from_slice(text);
+    let sum: u32 = line[..68]
+        .iter()
+        .map(|&byte| match byte {
+            b'0'..=b'9' => (byte - b'0') as u32,
+            b'-' => 1,
+            _ => 0,
+        })
+        .sum();
+    line[68] = b'0' + (sum % 10) as u8;
+    line
+}
+
+fn open_resonant() -> impl Iterator<Item = Satellite> {
+    RESONANT.iter().map(|[line1, line2]| Satellite::open(line1, line2).unwrap())
+}
+
+fn strides(satellite: &mut Satellite, minutes: &[i32]) -> Vec<u32> {
+    minutes.iter().map(|&t| satellite.request(Microseconds::from_minutes(t)).strides.0).collect()
+}
+
+fn bits(state: &State) -> [u64; 6] {
+    let ([x, y, z], [vx, vy, vz]) = (state.position, state.velocity);
+    [x, y, z, vx, vy, vz].map(f64::to_bits)
+}
+
+#[test]
+fn the_example_printed_whole() {
+    let expected = "\
+number 5
+class U
+designator 58002B
+epoch 2000 179 67819733568
+ndot 23
+nddot 0 0
+bstar 28098 -4
+type 0
+set 475
+inclination 342682
+node 3487242
+eccentricity 1859667
+perigee 3317664
+anomaly 193264
+motion 1082419157
+revolution 41366
+";
+    assert_eq!(printed(LINE1, LINE2), expected);
+    assert_eq!(read(LINE1, LINE2), Ok(()));
+    let mut room = vec![b'#'; expected.len() + 3];
+    assert_eq!(print(LINE1, LINE2, &mut room).unwrap(), expected.as_bytes());
+    assert_eq!(&room[expected.len()..], b"###");
+    let mut short = vec![b'#'; expected.len() - 1];
+    assert_eq!(print(LINE1, LINE2, &mut short), Err(Refusal::Room));
+    assert!(short.iter().all(|&byte| byte == b'#'));
+}
+
+#[test]
+fn lines_refused() {
+    let comma = with(LINE2, 12, b",");
+    let cases: [(&[u8], &[u8], Refusal); 9] = [
+        (LINE1, &comma, Refusal::Column { line: Line::Two, column: 12 }),
+        (&LINE1[..68], LINE2, Refusal::Length { line: Line::One }),
+        (LINE1, &LINE2[..68], Refusal::Length { line: Line::Two }),
+        (LINE1, b"", Refusal::Length { line: Line::Two }),
+        (LINE2, LINE1, Refusal::Start { line: Line::One }),
+        (LINE1, LINE1, Refusal::Start { line: Line::Two }),
+        (&[&LINE1[..68], b"4"].concat(), LINE2, Refusal::Checksum { line: Line::One }),
+        (LINE1, &[&LINE2[..68], b"8"].concat(), Refusal::Checksum { line: Line::Two }),
+        (LINE1, RESONANT[0][1], Refusal::Catalogue),
+    ];
+    for (line1, line2, refusal) in cases {
+        assert_eq!(read(line1, line2), Err(refusal));
+        assert_eq!(epoch(line1, line2), Err(refusal));
+        assert_eq!(Satellite::open(line1, line2).unwrap_err(), refusal);
+        assert_eq!(printed(line1, line2), format!("refused {}\n", refusal.number()));
+    }
+}
+
+#[test]
+fn ranges() {
+    let cases: [(usize, usize, &[u8], Option<Field>); 10] = [
+        (1, 21, b"000.99999999", Some(Field::Day)),
+        (1, 21, b"001.00000000", None),
+        (1, 21, b"366.99999999", None),
+        (1, 21, b"367.00000000", Some(Field::Day)),
+        (2, 9, b"180.0000", None),
+        (2, 9, b"180.0001", Some(Field::Inclination)),
+        (2, 18, b"359.9999", None),
+        (2, 18, b"360.0000", Some(Field::Node)),
+        (2, 53, b" 0.00000001", None),
+        (2, 53, b" 0.00000000", Some(Field::Motion)),
+    ];
+    for (line, column, text, field) in cases {
+        let (line1, line2) = match line {
+            1 => (with(LINE1, column, text), LINE2.to_vec()),
+            _ => (LINE1.to_vec(), with(LINE2, column, text)),
+        };
+        let expected = field.map_or(Ok(()), |field| Err(Refusal::Range { field }));
+        assert_eq!(read(&line1, &line2), expected, "{}", text.escape_ascii());
+    }
+}
+
+#[test]
+fn opening_refused() {
+    // At 180 degrees 002's xlcof is 0/0.
+    assert_eq!(Satellite::open(LINE1, &with(LINE2, 9, b"180.0000")).unwrap_err(), Refusal::RecordNotFinite);
+    assert_eq!(
+        Satellite::open(LINE1, &with(LINE2, 27, b"9859667")).unwrap_err(),
+        Refusal::PerigeeBelowSurface
+    );
+}
+
+#[test]
+fn epochs() {
+    let at = |year: &[u8], day: &[u8]| {
+        let line1 = with(&with(LINE1, 19, year), 21, day);
+        epoch(&line1, LINE2).unwrap()
+    };
+    assert_eq!(at(b"57", b"001.00000000"), Instant(0));
+    assert_eq!(at(b"57", b"001.00000001"), Instant(864));
+    // 100 years with 25 leap days, less a unit.
+    assert_eq!(at(b"56", b"366.99999999"), Instant(36_525 * 86_400_000_000 - 864));
+    let day = 43 * 365 + 10 + 178; // 1957 to 1999 with 10 leap days, then 178 whole days
+    let example = epoch(LINE1, LINE2).unwrap();
+    assert_eq!(example, Instant(day * 86_400_000_000 + 67_819_733_568));
+    assert_eq!(Instant(example.0 + 7).since(example), Microseconds(7));
+}
+
+#[test]
+fn strides_at_the_edges() {
+    for fresh in open_resonant() {
+        assert_eq!(strides(&mut fresh.clone(), &[1440, 2880, 1440, -720]), [2, 2, 2, 1]);
+        assert_eq!(strides(&mut fresh.clone(), &[719, 720, 1440]), [0, 1, 1]);
+        let mut satellite = fresh.clone();
+        for far in [LIMIT + 1, -LIMIT - 1, i64::MAX, i64::MIN] {
+            let answer = satellite.request(Microseconds(far));
+            assert_eq!((answer.row, answer.strides), (Err(Refusal::Time), Strides(0)));
+        }
+        assert_eq!(satellite.request(Microseconds::LIMIT).strides, Strides(7304));
+        assert_eq!(satellite.request(Microseconds(-LIMIT)).strides, Strides(7304));
+        assert_eq!(satellite.request(Microseconds(-LIMIT)).strides, Strides(0));
+    }
+    let mut satellite = Satellite::open(LINE1, LINE2).unwrap();
+    assert_eq!(strides(&mut satellite, &[1440, 2880, 1440, -720]), [0, 0, 0, 0]);
+}
+
+/// A row of a satellite asked before is that of one newly opened.
+#[test]
+fn the_saved_place_changes_no_bit() {
+    for fresh in open_resonant() {
+        let mut satellite = fresh.clone();
+        for minutes in [1440, 2880, 1440, -720, -20_000, 7, -721, 100_000] {
+            let time = Microseconds::from_minutes(minutes);
+            let (one, other) = (satellite.at(time).unwrap(), fresh.clone().at(time).unwrap());
+            assert_eq!(bits(&one), bits(&other), "{minutes} minutes");
+        }
+    }
+}
+
+const MARK: State = State { position: [7.0; 3], velocity: [8.0; 3] };
+
+/// Rooms of their own lengths, marked throughout.
+struct Marked {
+    refusals: Vec<u8>,
+    states: Vec<State>,
+    rounds: Vec<u8>,
+}
+
+impl Marked {
+    fn new(refusals: usize, states: usize, rounds: usize) -> Marked {
+        Marked { refusals: vec![77; refusals], states: vec![MARK; states], rounds: vec![99; rounds] }
+    }
+
+    fn lend(&mut self) -> Rooms<'_> {
+        Rooms { refusals: &mut self.refusals, states: &mut self.states, rounds: &mut self.rounds }
+    }
+
+    fn untouched_from(&self, row: usize) -> bool {
+        self.refusals[row..].iter().all(|&refusal| refusal == 77)
+            && self.states[row..].iter().all(|state| *state == MARK)
+            && self.rounds[row..].iter().all(|&rounds| rounds == 99)
+    }
+}
+
+#[test]
+fn lists() {
+    for fresh in open_resonant() {
+        let mut times = [720, 1440, 0, -720, 0, 100].map(Microseconds::from_minutes);
+        times[2] = Microseconds(LIMIT + 1);
+        let mut room = Marked::new(9, 8, 7);
+        let mut rooms = room.lend();
+        assert_eq!(fresh.clone().list(&times, &mut rooms), Ok(Strides(1 + 1 + 1)));
+        for (index, &time) in times.iter().enumerate() {
+            let alone = fresh.clone().request(time).row;
+            match (rooms.row(index), alone) {
+                (Ok(one), Ok(other)) => {
+                    assert_eq!((bits(&one.state), one.rounds), (bits(&other.state), other.rounds))
+                }
+                (one, other) => assert_eq!(one, other),
+            }
+        }
+        assert_eq!(rooms.row(2), Err(Refusal::Time));
+        assert_eq!((bits(&rooms.states[2]), rooms.rounds[2]), ([0; 6], 0));
+        assert!(room.untouched_from(6));
+    }
+}
+
+#[test]
+fn lists_without_strides() {
+    for mut satellite in open_resonant() {
+        let mut room = Marked::new(2, 2, 2);
+        assert_eq!(satellite.list(&[], &mut room.lend()), Ok(Strides(0)));
+        assert!(room.untouched_from(0));
+        assert_eq!(satellite.list(&[], &mut Marked::new(0, 0, 0).lend()), Ok(Strides(0)));
+        let far = [Microseconds(LIMIT + 1), Microseconds(i64::MIN)];
+        assert_eq!(satellite.list(&far, &mut room.lend()), Ok(Strides(0)));
+        assert_eq!(room.refusals, [9, 9]);
+    }
+}
+
+#[test]
+fn lists_refused_whole() {
+    for fresh in open_resonant() {
+        let mut satellite = fresh.clone();
+        satellite.at(Microseconds(5 * STRIDE)).unwrap();
+        let long = vec![Microseconds(0); Satellite::LIST_LIMIT + 1];
+        let mut room = Marked::new(0, 2000, 2000);
+        assert_eq!(satellite.list(&long, &mut room.lend()), Err(Refusal::List));
+        assert!(room.untouched_from(0));
+        for (refusals, states, rounds) in [(2, 3, 3), (3, 2, 3), (3, 3, 2), (0, 0, 0)] {
+            let mut room = Marked::new(refusals, states, rounds);
+            assert_eq!(satellite.list(&[Microseconds(0); 3], &mut room.lend()), Err(Refusal::Room));
+            assert!(room.untouched_from(0));
+        }
+        // The satellite is where it was: five strides out.
+        assert_eq!(satellite.request(Microseconds(6 * STRIDE)).strides, Strides(1));
+        let mut room = Marked::new(1024, 1024, 1024);
+        let longest = vec![Microseconds(2 * STRIDE); Satellite::LIST_LIMIT];
+        assert_eq!(satellite.list(&longest, &mut room.lend()), Ok(Strides(2)));
+        assert!(room.states.iter().all(|state| bits(state) == bits(&room.states[0])));
+    }
+}
+
+#[test]
+fn reopening() {
+    let [line1, line2] = RESONANT[0];
+    let mut satellite = Satellite::open(LINE1, LINE2).unwrap();
+    assert_eq!(satellite.reopen(line1, LINE2), Err(Refusal::Catalogue));
+    let Row { rounds, .. } = satellite.request(Microseconds(0)).row.unwrap();
+    assert_eq!(rounds, 4);
+    assert_eq!(satellite.reopen(line1, line2), Ok(()));
+    let one = satellite.at(Microseconds(0)).unwrap();
+    let other = Satellite::open(line1, line2).unwrap().at(Microseconds(0)).unwrap();
+    assert_eq!(bits(&one), bits(&other));
+}
+
+#[test]
+fn refusals_say_what_is_wrong() {
+    let comma = with(LINE2, 12, b",");
+    let refusal = read(LINE1, &comma).unwrap_err();
+    assert_eq!(refusal.to_string(), "refusal 3: line 2, column 12");
+    let refusal = read(LINE1, &with(LINE2, 9, b"180.0001")).unwrap_err();
+    assert_eq!(refusal.to_string(), "refusal 6: inclination out of range");
+}
+
+/// A satellite is plain memory: it may go to another thread.
+#[test]
+fn threads() {
+    let satellite = Satellite::open(LINE1, LINE2).unwrap();
+    let ask = |mut satellite: Satellite| bits(&satellite.at(Microseconds::from_minutes(360)).unwrap());
+    let here = ask(satellite.clone());
+    let there = std::thread::spawn(move || ask(satellite)).join().unwrap();
+    assert_eq!(here, there);
+}
