@@ -1,5 +1,5 @@
 -- The rows of a list, written one after the other at the front of the rooms that are lent.
-use mathlib.Core.Path.{_≡_, refl, sym, ap, _∙_}
+use mathlib.Core.Path.{_≡_, refl, sym, ap, _∙_, subst}
 use mathlib.Core.Bool.{Bool, true, false, cond}
 use mathlib.Core.List.{List, [], _∷_, _++_, append-assoc}
 use Prim.Native.Nat.{ℕ, zero, suc, _+_, _*_, _-_, _/_, _≤_, _<_}
@@ -19,12 +19,10 @@ use Rattle.sgp4.specs.declared.Row.{Row}
 use Rattle.sgp4.specs.Sgp4.{integratorOf}
 use Rattle.opening.specs.declared.opening.Satellite.{Satellite}
 use Rattle.requests.specs.declared.Asked.{Asked}
+use Rattle.requests.specs.declared.AskedTwo.{AskedTwo}
 use Rattle.requests.specs.declared.Answered.{Answered}
-use Rattle.requests.specs.Request.{reached, choose, inside, outside, asked, answered}
-use Rattle.requests.specs.Lists.{rowsFrom, stridesFrom, satelliteFrom, refusalsOf, statesOf, roundsOf, stateOf, over}
-
-abbrev pub holding : Model → Place → Satellite
-holding k p = record { model = k; place = p }
+use Rattle.requests.specs.Request.{reached, choose, inside, outside, asked, askedTwo, answered}
+use Rattle.requests.specs.Lists.{holding, rowsFrom, stridesFrom, satelliteFrom, refusalsOf, statesOf, roundsOf, stateOf, over, Done}
 
 -- ── one element, and a run of them, more at the front of a room ──
 
@@ -203,17 +201,39 @@ filling-more ts a₀ b₀ c₀ k p₀ a b c p n i d u b′ r f h hr hu hb =
           ∙ ap (λ l. over l c₀) (sym (ap roundsOf rows ∙ rounds-snoc (rowsFrom s₀ xs) (r .row)));
     }
 
+-- the same for a row that is put into the rooms
+pub filling-put : (ts : List ℤ) (a₀ : List ℕ) (b₀ : List Float) (c₀ : List ℕ) (k : Model) (p₀ : Place) (a : List ℕ) (b : List Float) (c : List ℕ) (p : Place) (n i : ℕ) (d u : ℤ) (a′ : List ℕ) (b′ : List Float) (c′ : List ℕ) (r : Asked)
+    → Filling ts a₀ b₀ c₀ k p₀ a b c p n i → i < length ts → r ≡ asked k p u → u ≡ getD ts i d
+    → (a′ ≡ set a i (r .row .refusal)) × ((b′ ≡ sets b (6 * i) (stateOf (r .row))) × (c′ ≡ set c i (r .row .rounds)))
+    → Filling ts a₀ b₀ c₀ k p₀ a′ b′ c′ (r .place) (n + r .strides .0) (i + 1)
+filling-put ts a₀ b₀ c₀ k p₀ a b c p n i d u a′ b′ c′ r f h hr hu e =
+    subst (λ (z : List ℕ). Filling ts a₀ b₀ c₀ k p₀ z b′ c′ (r .place) (n + r .strides .0) (i + 1)) (sym (e .0))
+    (subst (λ (z : List ℕ). Filling ts a₀ b₀ c₀ k p₀ (set a i (r .row .refusal)) b′ z (r .place) (n + r .strides .0) (i + 1)) (sym (e .1 .1))
+    (filling-more ts a₀ b₀ c₀ k p₀ a b c p n i d u b′ r f h hr hu (e .1 .0)))
+
+-- the answers for two times
+pub first-of : (x : AskedTwo) (k : Model) (p : Place) (t u : ℤ) → x ≡ askedTwo k p t u → x .first ≡ asked k p t
+first-of x k p t u e = ap (λ (z : AskedTwo). z .first) e
+
+pub second-of : (x : AskedTwo) (k : Model) (p : Place) (t u : ℤ) → x ≡ askedTwo k p t u → x .second ≡ asked k (x .first .place) u
+second-of x k p t u e = ap (λ (z : AskedTwo). z .second) e ∙ ap (λ (z : Asked). asked k (z .place) u) (sym (first-of x k p t u e))
+
+-- two rows more
+pub filling-two : (ts : List ℤ) (a₀ : List ℕ) (b₀ : List Float) (c₀ : List ℕ) (k : Model) (p₀ : Place) (a : List ℕ) (b : List Float) (c : List ℕ) (p : Place) (n i : ℕ) (d t u : ℤ)
+    (a′ : List ℕ) (b′ : List Float) (c′ : List ℕ) (a″ : List ℕ) (b″ : List Float) (c″ : List ℕ) (x : AskedTwo)
+    → Filling ts a₀ b₀ c₀ k p₀ a b c p n i → i + 1 < length ts → x ≡ askedTwo k p t u → t ≡ getD ts i d → u ≡ getD ts (i + 1) d
+    → (a′ ≡ set a i (x .first .row .refusal)) × ((b′ ≡ sets b (6 * i) (stateOf (x .first .row))) × (c′ ≡ set c i (x .first .row .rounds)))
+    → (a″ ≡ set a′ (i + 1) (x .second .row .refusal)) × ((b″ ≡ sets b′ (6 * (i + 1)) (stateOf (x .second .row))) × (c″ ≡ set c′ (i + 1) (x .second .row .rounds)))
+    → Filling ts a₀ b₀ c₀ k p₀ a″ b″ c″ (x .second .place) (n + x .first .strides .0 + x .second .strides .0) (i + 2)
+filling-two ts a₀ b₀ c₀ k p₀ a b c p n i d t u a′ b′ c′ a″ b″ c″ x f h hx ht hu e g =
+    let one = filling-put ts a₀ b₀ c₀ k p₀ a b c p n i d t a′ b′ c′ (x .first) f (omega arith) (first-of x k p t u hx) ht e in
+    let two = filling-put ts a₀ b₀ c₀ k p₀ a′ b′ c′ (x .first .place) (n + x .first .strides .0) (i + 1) d u a″ b″ c″ (x .second) one h (second-of x k p t u hx) hu g in
+    let j : i + 1 + 1 ≡ i + 2 = omega arith in
+    subst (λ (z : ℕ). Filling ts a₀ b₀ c₀ k p₀ a″ b″ c″ (x .second .place) (n + x .first .strides .0 + x .second .strides .0) z) j two
+
 -- at the end all are
 all-times : (ts : List ℤ) (i : ℕ) → i ≤ length ts → length ts ≤ i → take i ts ≡ ts
 all-times ts i h k = let e : i ≡ length ts = omega arith in ap (λ j. take j ts) e ∙ take-length ts
-
--- what the rooms hold at the end
-pub record Done (ts : List ℤ) (a₀ : List ℕ) (b₀ : List Float) (c₀ : List ℕ) (k : Model) (p₀ : Place) (a : List ℕ) (b : List Float) (c : List ℕ) (p : Place) (n : ℕ) : Type 0 where
-  pub strides : n ≡ stridesFrom (holding k p₀) ts
-  pub held : holding k p ≡ satelliteFrom (holding k p₀) ts
-  pub refusals : a ≡ over (refusalsOf (rowsFrom (holding k p₀) ts)) a₀
-  pub states : b ≡ over (statesOf (rowsFrom (holding k p₀) ts)) b₀
-  pub rounds : c ≡ over (roundsOf (rowsFrom (holding k p₀) ts)) c₀
 
 pub filling-done : {ts : List ℤ} {a₀ : List ℕ} {b₀ : List Float} {c₀ : List ℕ} {k : Model} {p₀ : Place} {a : List ℕ} {b : List Float} {c : List ℕ} {p : Place} {n i : ℕ}
     → Filling ts a₀ b₀ c₀ k p₀ a b c p n i → length ts ≤ i → Done ts a₀ b₀ c₀ k p₀ a b c p n

@@ -7,6 +7,8 @@ use lib.ListN.{length, drop}
 use lib.Dec.{eqb, ltb}
 use lib.IntN.{ℤ}
 use lib.Ieee.{Float}
+use Rattle.satellite.specs.declared.Model.{Model}
+use Rattle.resonance.specs.declared.place.Place.{Place}
 use Rattle.sgp4.specs.declared.Row.{Row}
 use Rattle.opening.specs.declared.opening.Satellite.{Satellite}
 use Rattle.requests.specs.declared.ListAnswer.{ListAnswer}
@@ -61,6 +63,17 @@ statesOf (r ∷ rs) = stateOf r ++ statesOf rs
 -- xs at the front of a room; what lies past them stays
 abbrev pub over : {A : Type 0} → List A → List A → List A
 over xs old = xs ++ drop (length xs) old
+
+abbrev pub holding : Model → Place → Satellite
+holding k p = record { model = k; place = p }
+
+-- every element of rooms a₀, b₀ and c₀ that are long enough, when the rows of ts are written; n strides were taken, from the position p₀ to p
+pub record Done (ts : List ℤ) (a₀ : List ℕ) (b₀ : List Float) (c₀ : List ℕ) (k : Model) (p₀ : Place) (a : List ℕ) (b : List Float) (c : List ℕ) (p : Place) (n : ℕ) : Type 0 where
+  pub strides : n ≡ stridesFrom (holding k p₀) ts
+  pub held : holding k p ≡ satelliteFrom (holding k p₀) ts
+  pub refusals : a ≡ over (refusalsOf (rowsFrom (holding k p₀) ts)) a₀
+  pub states : b ≡ over (statesOf (rowsFrom (holding k p₀) ts)) b₀
+  pub rounds : c ≡ over (roundsOf (rowsFrom (holding k p₀) ts)) c₀
 
 -- what a list answers, and every element of the rooms a, b and c afterwards
 pub record ListPost (s : Satellite) (ts : List ℤ) (a : List ℕ) (b : List Float) (c : List ℕ) (r : ListAnswer) (a′ : List ℕ) (b′ : List Float) (c′ : List ℕ) : Type 0 where

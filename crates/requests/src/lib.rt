@@ -1,8 +1,8 @@
 // Requests for position and velocity: one time, or a list of times, put to any satellite. Of the
 // satellite only the saved position changes. specs/Demand3 has the claim about whole sequences.
 ghost use mathlib.Core.Path.{_≡_};
-ghost use Prim.Native.Nat.{_+_, _*_, _≤_};
-ghost use lib.ListN.{length};
+ghost use Prim.Native.Nat.{_+_, _*_, _≤_, _<_};
+ghost use lib.ListN.{length, set};
 ghost use lib.Seq.{sets};
 ghost use Rattle.requests.specs.Request as Q;
 ghost use Rattle.requests.specs.Lists as L;
@@ -11,12 +11,16 @@ use instant::Strides;
 use opening::opening::Satellite;
 use resonance::place::Advance;
 use resonance::place::Place;
+use resonance::place::Side;
 use resonance::time::in_range;
 use resonance::time::side_of;
 use resonance::time::stride_need;
+use satellite::Method;
 use satellite::Model;
+use satellite::NearEarth;
 use sgp4::Row;
 use sgp4::integrator_of;
+use sgp4::near_rows_at;
 use sgp4::refused_row;
 use sgp4::row_at;
 
@@ -25,6 +29,12 @@ pub struct Asked {
     pub row: Row,
     pub strides: Strides,
     pub place: Place,
+}
+
+// The same of two times, the second at the position that the first leaves.
+pub struct AskedTwo {
+    pub first: Asked,
+    pub second: Asked,
 }
 
 // A single request's answer, with the satellite to be handed to the next.
@@ -76,6 +86,98 @@ fn ask(model: Model, place: Place, t: Microseconds) -> Asked
     }
 }
 
+fn ask_each(model: Model, place: Place, t: Microseconds, u: Microseconds) -> AskedTwo
+    ensures { λ r. ⌜ r ≡ Q.askedTwo model place (t .0) (u .0) ⌝ }
+{
+    let first = ask(model, place, t);
+    let reached = first.place;
+    let second = ask(model, reached, u);
+    AskedTwo { first, second }
+}
+
+// A saved pair, kept at stride 0 alone.
+fn kept_pair(n: u32, x: f64) -> f64
+    ensures { λ r. ⌜ r ≡ Q.keptPair n x ⌝ }
+{
+    if n == 0 {
+        return x;
+    }
+    0.0
+}
+
+// The position that a time without resonance leaves.
+fn still(place: Place) -> Place
+    ensures { λ r. ⌜ r ≡ Q.still place ⌝ }
+{
+    let strides = place.strides;
+    let n = strides.0;
+    Place {
+        side: Side::Forward,
+        strides: Strides(0),
+        xli: kept_pair(n, place.xli),
+        xni: kept_pair(n, place.xni),
+    }
+}
+
+// Rows of a near-Earth satellite do not wait for each other, so that two at once take less time.
+fn ask_near(near: NearEarth, place: Place, t: Microseconds, u: Microseconds) -> AskedTwo
+    ensures { λ r. ⌜ r ≡ Q.askedTwo (record { near = near; method = Method.NearEarth }) place (t .0) (u .0) ⌝ }
+{
+    if in_range(t) & in_range(u) {
+        let rows = near_rows_at(near, t, u);
+        let row = rows.first;
+        let next = rows.second;
+        let reached = still(place);
+        return AskedTwo {
+            first: Asked {
+                row,
+                strides: Strides(0),
+                place: reached,
+            },
+            second: Asked {
+                row: next,
+                strides: Strides(0),
+                place: reached,
+            },
+        };
+    }
+    let model = Model {
+        near,
+        method: Method::NearEarth,
+    };
+    ask_each(model, place, t, u)
+}
+
+fn ask_by(
+    near: NearEarth,
+    method: Method,
+    place: Place,
+    t: Microseconds,
+    u: Microseconds,
+) -> AskedTwo
+    ensures { λ r. ⌜ r ≡ Q.askedTwo (record { near = near; method = method }) place (t .0) (u .0) ⌝ }
+{
+    match method {
+        Method::NearEarth => ask_near(near, place, t, u),
+        Method::DeepSpace(d) => {
+            let model = Model {
+                near,
+                method: Method::DeepSpace(d),
+            };
+            ask_each(model, place, t, u)
+        }
+    }
+}
+
+// Two times, one after the other.
+fn ask_two(model: Model, place: Place, t: Microseconds, u: Microseconds) -> AskedTwo
+    ensures { λ r. ⌜ r ≡ Q.askedTwo model place (t .0) (u .0) ⌝ }
+{
+    let near = model.near;
+    let method = model.method;
+    ask_by(near, method, place, t, u)
+}
+
 // The row of one time in microseconds since the epoch.
 pub fn request(satellite: Satellite, time: Microseconds) -> Answered
     ensures { λ r. ⌜ r ≡ Q.answered satellite (time .0) ⌝ }
@@ -110,8 +212,109 @@ fn put_state(states: &mut [f64], at: usize, row: Row)
     states[at + 5] = row.vz;
 }
 
+// A row, in its place in the three rooms.
+fn put_row(refusals: &mut [u8], states: &mut [f64], rounds: &mut [u8], i: usize, row: Row)
+    requires { ⌜ i < length (now refusals) ⌝ }
+    requires { ⌜ 6 * i + 6 ≤ length (now states) ⌝ }
+    requires { ⌜ i < length (now rounds) ⌝ }
+    ensures { λ _. ⌜ now (refusals .exit) ≡ set (now (refusals .entry)) i (row .refusal) ⌝ }
+    ensures { λ _. ⌜ now (states .exit) ≡ sets (now (states .entry)) (6 * i) (L.stateOf row) ⌝ }
+    ensures { λ _. ⌜ now (rounds .exit) ≡ set (now (rounds .entry)) i (row .rounds) ⌝ }
+{
+    refusals[i] = row.refusal;
+    put_state(states, 6 * i, row);
+    rounds[i] = row.rounds;
+}
+
 // A row for each time, in rooms that are long enough. The model does not change: the loop carries
 // the saved position alone.
+fn fill_each(
+    model: Model,
+    place: Place,
+    times: &[i64],
+    refusals: &mut [u8],
+    states: &mut [f64],
+    rounds: &mut [u8],
+) -> Filled
+    requires { ⌜ length (now times) ≤ 1024 ⌝ }
+    requires { ⌜ length (now times) ≤ length (now refusals) ⌝ }
+    requires { ⌜ 6 * length (now times) ≤ length (now states) ⌝ }
+    requires { ⌜ length (now times) ≤ length (now rounds) ⌝ }
+    ensures { λ r. ⌜ L.Done (now (times .entry)) (now (refusals .entry)) (now (states .entry)) (now (rounds .entry)) model place (now (refusals .exit)) (now (states .exit)) (now (rounds .exit)) (r .place) (r .strides .0) ⌝ }
+{
+    let mut p = place;
+    let mut total: u32 = 0;
+    let mut i = 0;
+    while i < times.len() {
+        let t = times[i];
+        let a = ask(model, p, Microseconds(t));
+        let row = a.row;
+        put_row(refusals, states, rounds, i, row);
+        total += a.strides.0;
+        p = a.place;
+        i += 1;
+    }
+    Filled {
+        strides: Strides(total),
+        place: p,
+    }
+}
+
+// The same, the times taken two by two.
+fn fill_two(
+    model: Model,
+    place: Place,
+    times: &[i64],
+    refusals: &mut [u8],
+    states: &mut [f64],
+    rounds: &mut [u8],
+) -> Filled
+    requires { ⌜ length (now times) ≤ 1024 ⌝ }
+    requires { ⌜ length (now times) ≤ length (now refusals) ⌝ }
+    requires { ⌜ 6 * length (now times) ≤ length (now states) ⌝ }
+    requires { ⌜ length (now times) ≤ length (now rounds) ⌝ }
+    ensures { λ r. ⌜ L.Done (now (times .entry)) (now (refusals .entry)) (now (states .entry)) (now (rounds .entry)) model place (now (refusals .exit)) (now (states .exit)) (now (rounds .exit)) (r .place) (r .strides .0) ⌝ }
+{
+    let mut p = place;
+    let mut total: u32 = 0;
+    let mut i = 0;
+    while i + 1 < times.len() {
+        let t = times[i];
+        let u = times[i + 1];
+        let two = ask_two(model, p, Microseconds(t), Microseconds(u));
+        let first = two.first;
+        let second = two.second;
+        let row = first.row;
+        let next = second.row;
+        put_row(refusals, states, rounds, i, row);
+        put_row(refusals, states, rounds, i + 1, next);
+        total += first.strides.0;
+        total += second.strides.0;
+        p = second.place;
+        i += 2;
+    }
+    if i < times.len() {
+        let t = times[i];
+        let a = ask(model, p, Microseconds(t));
+        let row = a.row;
+        put_row(refusals, states, rounds, i, row);
+        total += a.strides.0;
+        p = a.place;
+    }
+    Filled {
+        strides: Strides(total),
+        place: p,
+    }
+}
+
+// Either gives the same; which is the faster turns on the method.
+fn by_twos(method: Method) -> bool {
+    match method {
+        Method::NearEarth => true,
+        Method::DeepSpace(_) => false,
+    }
+}
+
 fn fill(
     model: Model,
     place: Place,
@@ -124,30 +327,13 @@ fn fill(
     requires { ⌜ length (now times) ≤ length (now refusals) ⌝ }
     requires { ⌜ 6 * length (now times) ≤ length (now states) ⌝ }
     requires { ⌜ length (now times) ≤ length (now rounds) ⌝ }
-    ensures { λ r. ⌜ r .strides .0 ≡ L.stridesFrom (record { model = model; place = place }) (now (times .entry)) ⌝ }
-    ensures { λ r. ⌜ _≡_ {A = Satellite} (record { model = model; place = r .place }) (L.satelliteFrom (record { model = model; place = place }) (now (times .entry))) ⌝ }
-    ensures { λ r. ⌜ now (refusals .exit) ≡ L.over (L.refusalsOf (L.rowsFrom (record { model = model; place = place }) (now (times .entry)))) (now (refusals .entry)) ⌝ }
-    ensures { λ r. ⌜ now (states .exit) ≡ L.over (L.statesOf (L.rowsFrom (record { model = model; place = place }) (now (times .entry)))) (now (states .entry)) ⌝ }
-    ensures { λ r. ⌜ now (rounds .exit) ≡ L.over (L.roundsOf (L.rowsFrom (record { model = model; place = place }) (now (times .entry)))) (now (rounds .entry)) ⌝ }
+    ensures { λ r. ⌜ L.Done (now (times .entry)) (now (refusals .entry)) (now (states .entry)) (now (rounds .entry)) model place (now (refusals .exit)) (now (states .exit)) (now (rounds .exit)) (r .place) (r .strides .0) ⌝ }
 {
-    let mut p = place;
-    let mut total: u32 = 0;
-    let mut i = 0;
-    while i < times.len() {
-        let t = times[i];
-        let a = ask(model, p, Microseconds(t));
-        let row = a.row;
-        refusals[i] = row.refusal;
-        put_state(states, 6 * i, row);
-        rounds[i] = row.rounds;
-        total += a.strides.0;
-        p = a.place;
-        i += 1;
+    let method = model.method;
+    if by_twos(method) {
+        return fill_two(model, place, times, refusals, states, rounds);
     }
-    Filled {
-        strides: Strides(total),
-        place: p,
-    }
+    fill_each(model, place, times, refusals, states, rounds)
 }
 
 // The number that a list is refused with, from the lengths of the times and the rooms; 0 where it is

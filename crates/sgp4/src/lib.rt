@@ -30,6 +30,12 @@ pub struct Row {
     pub rounds: u8,
 }
 
+// The rows of two times.
+pub struct Rows {
+    pub first: Row,
+    pub second: Row,
+}
+
 fn state_by(s: NearEarth, method: Method, p: Place, t: Minutes) -> Answer
     ensures { λ r. ⌜ r ≡ S.stateBy s method p t ⌝ }
 {
@@ -111,4 +117,19 @@ pub fn row_at(model: Model, p: Place, t: Microseconds) -> Row
     ensures { λ r. ⌜ r ≡ R.rowAt model p (t .0) ⌝ }
 {
     row_of(state_at(model, p, to_minutes(t)))
+}
+
+// The rows of two times in range of a near-Earth satellite, which has no use for a position.
+pub fn near_rows_at(s: NearEarth, t: Microseconds, u: Microseconds) -> Rows
+    ensures { λ r. ⌜ r ≡ record { first = R.nearRowAt s (t .0); second = R.nearRowAt s (u .0) } ⌝ }
+{
+    let a = to_minutes(t);
+    let b = to_minutes(u);
+    let two = state::sgp4::sgp4_two(s, a.0, b.0);
+    let x = two.first;
+    let y = two.second;
+    Rows {
+        first: row_of(x),
+        second: row_of(y),
+    }
 }

@@ -4,3 +4,4 @@ pub mod Periodics
 pub mod Orientation
 pub mod Answer
 pub mod Sgp4
+pub mod Two

@@ -60,6 +60,15 @@ pub struct Latus {
     pub betal: f64,
 }
 
+// What is known of a time once Kepler's equation is solved.
+pub struct Solved {
+    pub p: Perturbed,
+    pub m: Mean,
+    pub q: Long,
+    pub e: Anomaly,
+    pub l: Latus,
+}
+
 // Position and velocity in the orbit's plane.
 pub struct Plane {
     pub rl: f64,

@@ -15,7 +15,7 @@ returns-2 c =
     let a = c .before .before .before .before .before .before .before .before in
     let l = a .before .before .before .before in
     let f = a .fill .ensures in
-    accepted _ _ _ _ _ _ _ _ _ _ _ (l .before .list-refusal .ensures) (l .if1 .left) (f .0) (f .1 .0) (f .1 .1 .0) (f .1 .1 .1 .0) (f .1 .1 .1 .1)
+    accepted _ _ _ _ _ _ _ _ _ _ _ (l .before .list-refusal .ensures) (l .if1 .left) (f .strides) (f .held) (f .refusals) (f .states) (f .rounds)
 
 pub request-list-spec : {M : Type 1} → statement M
 request-list-spec =
