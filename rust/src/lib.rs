@@ -36,7 +36,7 @@
 //! ```
 //!
 //! Lines are any bytes at all, without a line end. They get an answer or exactly one [`Refusal`],
-//! with the line and the first column at fault.
+//! with the line, the first column that breaks the layout, or the field, where it has one.
 
 #![deny(unsafe_code, missing_debug_implementations)]
 
