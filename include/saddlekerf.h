@@ -38,7 +38,7 @@
  *   Nothing is allocated, nothing is kept after the return, and there is no global state: calls on
  *   different memory may run in any number of threads at once. A request writes the satellite, so
  *   one satellite takes one call at a time; copy the struct to ask it in two threads.
- *   A call that is refused with 1-8, 17 or 18 writes nothing.
+ *   A call that is refused with 1-9, 17 or 18 writes nothing.
  *
  * ANSWERS
  *

@@ -116,3 +116,45 @@ impl Satellite {
         answer.refusal().map(|()| Strides(answer.count()))
     }
 }
+
+#[cfg(test)]
+mod tests {
+    use super::*;
+
+    const LINE1: &[u8] = b"1 00005U 58002B   00179.78495062  .00000023  00000-0  28098-4 0  4753";
+    const LINE2: &[u8] = b"2 00005  34.2682 348.7242 1859667 331.7664  19.3264 10.82419157413667";
+
+    /// Where `no` of the elements lies (crates/storage/specs/Storage.antt).
+    const NO: usize = 7;
+
+    fn bits(satellite: &Satellite) -> (Vec<u64>, [u32; ffi::MARKS]) {
+        (satellite.numbers.iter().map(|x| x.to_bits()).collect(), satellite.marks)
+    }
+
+    /// No lines are known to lead to refusal 10; memory changed by hand does.
+    #[test]
+    fn no_mean_motion() {
+        let mut satellite = Satellite::open(LINE1, LINE2).unwrap();
+        assert!(satellite.numbers[NO] > 0.0);
+        satellite.numbers[NO] = -satellite.numbers[NO];
+        let times = [Microseconds(0), Microseconds(60_000_000), Microseconds(120_000_000)];
+        assert_eq!(satellite.request(times[0]).row.unwrap_err().number(), 10);
+        let (mut refusals, mut states, mut rounds) = ([7; 3], [State::default(); 3], [7; 3]);
+        let mut rooms = Rooms { refusals: &mut refusals, states: &mut states, rounds: &mut rounds };
+        satellite.list(&times, &mut rooms).unwrap();
+        assert_eq!((refusals, states, rounds), ([10; 3], [State::default(); 3], [0; 3]));
+    }
+
+    /// A side mark that no call writes stays where the time is out of range, and only there.
+    #[test]
+    fn nothing_written_after_refusal_9() {
+        let mut satellite = Satellite::open(LINE1, LINE2).unwrap();
+        satellite.marks[0] = 7;
+        let before = bits(&satellite);
+        let late = Microseconds(315_532_800_000_001);
+        assert_eq!(satellite.request(late).row.unwrap_err().number(), 9);
+        assert_eq!(bits(&satellite), before);
+        assert!(satellite.request(Microseconds(0)).row.is_ok());
+        assert_ne!(bits(&satellite), before);
+    }
+}

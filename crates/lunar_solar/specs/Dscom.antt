@@ -8,6 +8,7 @@ use Rattle.elementary.specs.Angle.{atan2Of}
 use Rattle.satellite.specs.declared.Periodics.{Periodics}
 use Rattle.satellite.specs.declared.LunarSolar.{LunarSolar}
 use Rattle.lunar_solar.specs.declared.dscom.Angles.{Angles}
+use Rattle.lunar_solar.specs.declared.dscom.Lunar.{Lunar}
 use Rattle.lunar_solar.specs.declared.dscom.Shape.{Shape}
 use Rattle.lunar_solar.specs.declared.dscom.Body.{Body}
 use Rattle.lunar_solar.specs.declared.dscom.Axes.{Axes}
@@ -72,9 +73,10 @@ sunOf o =
       cc = dec 29864797 13;
     }
 
--- the Moon's angles, 2015-2028, and the lunar terms of 2116-2122. Misprints: 2119 is zsini = zsinil, 2120 has zsinhl ⊗ snodm, 2122 is cc = c1l.
-unfoldable pub moonOf : Angles → Float → Float → Body
-moonOf o day gam =
+-- the Moon's angles, 2015-2028, of the epoch and tc alone
+unfoldable pub lunarOf : Float → Float → Lunar
+lunarOf epoch tc =
+    let day = dayOf epoch tc in
     let xnodce = turned (dec 45236020 7 ⊖ dec 92422029 11 ⊗ day) in
     let stem = sinOf xnodce in
     let ctem = cosOf xnodce in
@@ -85,16 +87,19 @@ moonOf o day gam =
     let zx = dec 39785416 8 ⊗ stem ⊘ zsinil in
     let zy = zcoshl ⊗ ctem ⊕ dec 91744867 8 ⊗ zsinhl ⊗ stem in
     let zx = atan2Of zx zy in
-    let zx = gam ⊕ zx ⊖ xnodce in
-    let zcosgl = cosOf zx in
-    let zsingl = sinOf zx in
+    let zx = gamOf day ⊕ zx ⊖ xnodce in
+    record { zcosgl = cosOf zx; zsingl = sinOf zx; zcosil = zcosil; zsinil = zsinil; zcoshl = zcoshl; zsinhl = zsinhl }
+
+-- the lunar terms, 2116-2122. Misprints: 2119 is zsini = zsinil, 2120 has zsinhl ⊗ snodm, 2122 is cc = c1l.
+unfoldable pub moonOf : Angles → Lunar → Body
+moonOf o l =
     record {
-      zcosg = zcosgl;
-      zsing = zsingl;
-      zcosi = zcosil;
-      zsini = zsinil;
-      zcosh = zcoshl ⊗ o .cnodm ⊕ zsinhl ⊗ o .snodm;
-      zsinh = o .snodm ⊗ zcoshl ⊖ o .cnodm ⊗ zsinhl;
+      zcosg = l .zcosgl;
+      zsing = l .zsingl;
+      zcosi = l .zcosil;
+      zsini = l .zsinil;
+      zcosh = l .zcoshl ⊗ o .cnodm ⊕ l .zsinhl ⊗ o .snodm;
+      zsinh = o .snodm ⊗ l .zcoshl ⊖ o .cnodm ⊗ l .zsinhl;
       cc = dec 47968065 14;
     }
 
@@ -233,14 +238,13 @@ bothOf sun moon emsq day gam =
     }
 
 -- the solar pass, then the lunar pass
-unfoldable pub dscomOf : Float → Float → Float → Float → Float → Float → Float → Common
-dscomOf epoch ep argpp tc inclp nodep np =
-    let angles = anglesOf argpp inclp nodep in
+unfoldable pub dscomFrom : Angles → Lunar → Float → Float → Float → Float → Common
+dscomFrom angles lunar epoch ep tc np =
     let shape = shapeOf ep np in
     let day = dayOf epoch tc in
     let gam = gamOf day in
     let sun = passOf (sunOf angles) angles shape in
-    let moon = passOf (moonOf angles day gam) angles shape in
+    let moon = passOf (moonOf angles lunar) angles shape in
     record {
       angles = angles;
       shape = shape;
@@ -248,3 +252,6 @@ dscomOf epoch ep argpp tc inclp nodep np =
       moon = moon;
       periodics = bothOf sun moon (shape .emsq) day gam;
     }
+
+unfoldable pub dscomOf : Float → Float → Float → Float → Float → Float → Float → Common
+dscomOf epoch ep argpp tc inclp nodep np = dscomFrom (anglesOf argpp inclp nodep) (lunarOf epoch tc) epoch ep tc np

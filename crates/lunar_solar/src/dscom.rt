@@ -14,6 +14,16 @@ pub struct Angles {
     pub cosim: f64,
 }
 
+// The Moon's angles, which are the epoch's alone.
+pub struct Lunar {
+    pub zcosgl: f64,
+    pub zsingl: f64,
+    pub zcosil: f64,
+    pub zsinil: f64,
+    pub zcoshl: f64,
+    pub zsinhl: f64,
+}
+
 pub struct Shape {
     pub nm: f64,
     pub em: f64,
@@ -91,7 +101,7 @@ pub struct Common {
     pub periodics: LunarSolar,
 }
 
-fn angles_of(argpp: f64, inclp: f64, nodep: f64) -> Angles
+pub fn angles_of(argpp: f64, inclp: f64, nodep: f64) -> Angles
     ensures { λ r. ⌜ r ≡ D.anglesOf argpp inclp nodep ⌝ }
 {
     let node = elementary::sin_cos(nodep);
@@ -150,9 +160,11 @@ fn sun_of(o: Angles) -> Body
     }
 }
 
-fn moon_of(o: Angles, day: f64, gam: f64) -> Body
-    ensures { λ r. ⌜ r ≡ D.moonOf o day gam ⌝ }
+pub fn lunar_of(epoch: f64, tc: f64) -> Lunar
+    ensures { λ r. ⌜ r ≡ D.lunarOf epoch tc ⌝ }
 {
+    let day = day_of(epoch, tc);
+    let gam = gam_of(day);
     let xnodce = elementary::rem_turn(4.5236020 - 9.2422029e-4 * day);
     let tem = elementary::sin_cos(xnodce);
     let stem = tem.sin;
@@ -166,13 +178,26 @@ fn moon_of(o: Angles, day: f64, gam: f64) -> Body
     let zx = elementary::atan2(zx, zy);
     let zx = gam + zx - xnodce;
     let gl = elementary::sin_cos(zx);
+    Lunar {
+        zcosgl: gl.cos,
+        zsingl: gl.sin,
+        zcosil,
+        zsinil,
+        zcoshl,
+        zsinhl,
+    }
+}
+
+fn moon_of(o: Angles, l: Lunar) -> Body
+    ensures { λ r. ⌜ r ≡ D.moonOf o l ⌝ }
+{
     Body {
-        zcosg: gl.cos,
-        zsing: gl.sin,
-        zcosi: zcosil,
-        zsini: zsinil,
-        zcosh: zcoshl * o.cnodm + zsinhl * o.snodm,
-        zsinh: o.snodm * zcoshl - o.cnodm * zsinhl,
+        zcosg: l.zcosgl,
+        zsing: l.zsingl,
+        zcosi: l.zcosil,
+        zsini: l.zsinil,
+        zcosh: l.zcoshl * o.cnodm + l.zsinhl * o.snodm,
+        zsinh: o.snodm * l.zcoshl - o.cnodm * l.zsinhl,
         cc: 4.7968065e-7,
     }
 }
@@ -323,16 +348,16 @@ fn both_of(sun: Pass, moon: Pass, emsq: f64, day: f64, gam: f64) -> LunarSolar
     }
 }
 
-// The solar pass, then the lunar pass; `epoch` counts days as 002's sgp4init does.
-pub fn dscom(epoch: f64, ep: f64, argpp: f64, tc: f64, inclp: f64, nodep: f64, np: f64) -> Common
-    ensures { λ r. ⌜ r ≡ D.dscomOf epoch ep argpp tc inclp nodep np ⌝ }
+// The solar pass, then the lunar pass; `epoch` counts days as 002's sgp4init does. The angles come
+// first, from angles_of and lunar_of: nothing else is needed for them, so that they can begin early.
+pub fn dscom(angles: Angles, lunar: Lunar, epoch: f64, ep: f64, tc: f64, np: f64) -> Common
+    ensures { λ r. ⌜ r ≡ D.dscomFrom angles lunar epoch ep tc np ⌝ }
 {
-    let angles = angles_of(argpp, inclp, nodep);
     let shape = shape_of(ep, np);
     let day = day_of(epoch, tc);
     let gam = gam_of(day);
     let sun = pass_of(sun_of(angles), angles, shape);
-    let moon = pass_of(moon_of(angles, day, gam), angles, shape);
+    let moon = pass_of(moon_of(angles, lunar), angles, shape);
     let periodics = both_of(sun, moon, shape.emsq, day, gam);
     Common {
         angles,

@@ -2,5 +2,6 @@
 mod Tests
 mod FloatLaws
 mod Guard
+mod Ahead
 pub mod Made
 pub mod AllFinite

@@ -1,4 +1,5 @@
 pub mod Elements
 pub mod DeepSpace
+pub mod Ahead
 pub mod Opening
 pub mod Finite

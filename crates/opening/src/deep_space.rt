@@ -1,27 +1,75 @@
 // 002's sgp4init: deep space initialization. Its call of dpper with init 'y' changes nothing.
 ghost use mathlib.Core.Path.{_≡_};
 ghost use Rattle.opening.specs.DeepSpace as D;
+ghost use Rattle.opening.specs.Ahead as W;
+use lunar_solar::dscom::Angles;
 use lunar_solar::dscom::Common;
+use lunar_solar::dscom::Lunar;
+use lunar_solar::dscom::angles_of;
 use lunar_solar::dscom::dscom;
+use lunar_solar::dscom::lunar_of;
 use lunar_solar::dsinit::secular_rates;
 use resonance::dsinit::Epoch;
 use resonance::dsinit::Orbit;
+use resonance::dsinit::aonv_of;
 use resonance::dsinit::dsinit;
 use satellite::DeepSpace;
+use satellite::Elements;
 use satellite::NearEarth;
 
-fn common(epoch: f64, n: NearEarth) -> Common
-    ensures { λ r. ⌜ r ≡ D.common epoch n ⌝ }
+// What deep space needs of the epoch, the angles and the mean motion alone. Its steps are long, and
+// nothing of the near-Earth part waits for them, nor they for it: begun first, they run beside it.
+pub struct Ahead {
+    pub aonv: f64,
+    pub angles: Angles,
+    pub lunar: Lunar,
+}
+
+fn ahead_of(epoch: f64, el: Elements, no: f64) -> Ahead
+    ensures { λ r. ⌜ r ≡ W.aheadOf epoch el no ⌝ }
 {
-    dscom(
-        epoch,
-        n.elements.ecco,
-        n.elements.argpo,
-        0.0,
-        n.elements.inclo,
-        n.elements.nodeo,
-        n.elements.no,
-    )
+    let aonv = aonv_of(no);
+    let lunar = lunar_of(epoch, 0.0);
+    let angles = angles_of(el.argpo, el.inclo, el.nodeo);
+    Ahead {
+        aonv,
+        angles,
+        lunar,
+    }
+}
+
+fn not_ahead() -> Ahead
+    ensures { λ r. ⌜ r ≡ W.notAhead ⌝ }
+{
+    Ahead {
+        aonv: 0.0,
+        angles: Angles {
+            snodm: 0.0,
+            cnodm: 0.0,
+            sinomm: 0.0,
+            cosomm: 0.0,
+            sinim: 0.0,
+            cosim: 0.0,
+        },
+        lunar: Lunar {
+            zcosgl: 0.0,
+            zsingl: 0.0,
+            zcosil: 0.0,
+            zsinil: 0.0,
+            zcoshl: 0.0,
+            zsinhl: 0.0,
+        },
+    }
+}
+
+// `no` is the recovered mean motion.
+pub fn ahead_by(deep: bool, epoch: f64, el: Elements, no: f64) -> Ahead
+    ensures { λ r. ⌜ r ≡ W.aheadBy deep epoch el no ⌝ }
+{
+    if deep {
+        return ahead_of(epoch, el, no);
+    }
+    not_ahead()
 }
 
 fn orbit(c: Common, ecco: f64, eccsq: f64) -> Orbit
@@ -55,13 +103,16 @@ fn at_epoch(n: NearEarth, gsto: f64) -> Epoch
 }
 
 // Of the epoch in days, the Greenwich angle, the near-Earth part and eccsq.
-pub fn deep_space(epoch: f64, gsto: f64, n: NearEarth, eccsq: f64) -> DeepSpace
-    ensures { λ r. ⌜ r ≡ D.deepSpaceOf epoch gsto n eccsq ⌝ }
+pub fn deep_space(a: Ahead, epoch: f64, gsto: f64, n: NearEarth, eccsq: f64) -> DeepSpace
+    ensures { λ r. ⌜ r ≡ W.deepSpaceFrom a epoch gsto n eccsq ⌝ }
 {
-    let c = common(epoch, n);
+    let angles = a.angles;
+    let lunar = a.lunar;
+    let c = dscom(angles, lunar, epoch, n.elements.ecco, 0.0, n.elements.no);
     let rates = secular_rates(c, n.elements.inclo);
     let integrator = dsinit(
         orbit(c, n.elements.ecco, eccsq),
+        a.aonv,
         at_epoch(n, gsto),
         rates,
         0.0,

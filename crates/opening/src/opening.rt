@@ -1,6 +1,7 @@
 // Opening a record, or two lines.
 ghost use mathlib.Core.Path.{_≡_};
 ghost use Rattle.opening.specs.Opening as O;
+use crate::deep_space::ahead_by;
 use crate::deep_space::deep_space;
 use crate::elements::elements_of;
 use elementary::is_finite;
@@ -71,9 +72,10 @@ fn model_of(el: Elements, i: Initl, days: f64, gsto: f64) -> Model
     ensures { λ r. ⌜ r ≡ O.modelOf el i days gsto ⌝ }
 {
     let deep = is_deep_space(i);
+    let a = ahead_by(deep, days, el, i.no);
     let near = near_earth(el, i, deep);
     if deep {
-        let d = deep_space(days, gsto, near, i.eccsq);
+        let d = deep_space(a, days, gsto, near, i.eccsq);
         return Model {
             near,
             method: Method::DeepSpace(d),

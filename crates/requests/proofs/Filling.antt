@@ -21,7 +21,8 @@ use Rattle.opening.specs.declared.opening.Satellite.{Satellite}
 use Rattle.requests.specs.declared.Asked.{Asked}
 use Rattle.requests.specs.declared.AskedTwo.{AskedTwo}
 use Rattle.requests.specs.declared.Answered.{Answered}
-use Rattle.requests.specs.Request.{reached, choose, inside, outside, asked, askedTwo, answered}
+use Rattle.requests.specs.Request.{reached, choose, inside, outside, asked, answered}
+use Rattle.requests.specs.Two.{askedTwo}
 use Rattle.requests.specs.Lists.{holding, rowsFrom, stridesFrom, satelliteFrom, refusalsOf, statesOf, roundsOf, stateOf, over, Done}
 
 -- ── one element, and a run of them, more at the front of a room ──

@@ -2,5 +2,6 @@
 mod Answers
 pub mod Filling
 mod Listing
+pub mod Nine
 pub mod Demand3
 pub mod Edges

@@ -1,4 +1,5 @@
 pub mod Request
+pub mod Two
 pub mod Lists
 pub mod Demand3
 pub mod Edges

@@ -1,14 +1,9 @@
 -- One time put to any satellite handed in: document 01, "Steps of the model", its second paragraph, and refusal 9. Definitions only.
-use Prim.Native.Nat.{ℕ}
-use mathlib.Core.Bool.{Bool, true, false, cond}
-use lib.Dec.{eqb}
-use lib.Ieee.{Float}
-use Rattle.elementary.specs.Notation.{dec}
+use mathlib.Core.Bool.{Bool, true, false}
 use lib.IntN.{ℤ}
 use Rattle.instant.specs.declared.Strides.{Strides}
 use Rattle.satellite.specs.declared.Model.{Model}
 use Rattle.resonance.specs.declared.place.Place.{Place}
-use Rattle.resonance.specs.declared.place.Side.the-variants as side
 use Rattle.resonance.specs.declared.place.Advance.{Advance}
 use Rattle.resonance.specs.Place.{advanceOf}
 use Rattle.resonance.specs.Time.{sideOf, inRange, strideNeed}
@@ -17,7 +12,6 @@ use Rattle.sgp4.specs.Sgp4.{integratorOf}
 use Rattle.sgp4.specs.Row.{refusedRow, rowAt}
 use Rattle.opening.specs.declared.opening.Satellite.{Satellite}
 use Rattle.requests.specs.declared.Asked.{Asked}
-use Rattle.requests.specs.declared.AskedTwo.{AskedTwo}
 use Rattle.requests.specs.declared.Answered.{Answered}
 
 -- the position of m, and the strides taken to it
@@ -39,17 +33,6 @@ outside p = record { row = refusedRow 9; strides = record { 0 = 0 }; place = p }
 -- what a time gives at a saved position, and what it makes of that
 unfoldable pub asked : Model → Place → ℤ → Asked
 asked k p t = choose (inRange t) (inside k p t) (outside p)
-
--- two times, the second at the position that the first leaves
-abbrev pub askedTwo : Model → Place → ℤ → ℤ → AskedTwo
-askedTwo k p t u = let a = asked k p t in record { first = a; second = asked k (a .place) u }
-
--- without resonance: the position of stride 0, which a position of stride 0 is already, but for its side
-unfoldable pub keptPair : ℕ → Float → Float
-keptPair n x = cond (eqb n 0) x (dec 0 0)
-
-unfoldable pub still : Place → Place
-still p = record { side = side.Forward; strides = record { 0 = 0 }; xli = keptPair (p .strides .0) (p .xli); xni = keptPair (p .strides .0) (p .xni) }
 
 -- a single request: of the satellite, only the saved position changes
 abbrev pub answered : Satellite → ℤ → Answered

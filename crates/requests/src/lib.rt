@@ -5,24 +5,22 @@ ghost use Prim.Native.Nat.{_+_, _*_, _≤_, _<_};
 ghost use lib.ListN.{length, set};
 ghost use lib.Seq.{sets};
 ghost use Rattle.requests.specs.Request as Q;
+ghost use Rattle.requests.specs.Two.{askedTwo};
 ghost use Rattle.requests.specs.Lists as L;
 use instant::Microseconds;
 use instant::Strides;
 use opening::opening::Satellite;
 use resonance::place::Advance;
 use resonance::place::Place;
-use resonance::place::Side;
 use resonance::time::in_range;
 use resonance::time::side_of;
 use resonance::time::stride_need;
-use satellite::Method;
 use satellite::Model;
-use satellite::NearEarth;
 use sgp4::Row;
 use sgp4::integrator_of;
-use sgp4::near_rows_at;
 use sgp4::refused_row;
 use sgp4::row_at;
+use sgp4::rows_at;
 
 // What a time gives at a saved position, and what it makes of that.
 pub struct Asked {
@@ -86,96 +84,44 @@ fn ask(model: Model, place: Place, t: Microseconds) -> Asked
     }
 }
 
-fn ask_each(model: Model, place: Place, t: Microseconds, u: Microseconds) -> AskedTwo
-    ensures { λ r. ⌜ r ≡ Q.askedTwo model place (t .0) (u .0) ⌝ }
+fn ask_each(model: Model, place: Place, t: Microseconds, t2: Microseconds) -> AskedTwo
+    ensures { λ r. ⌜ r ≡ askedTwo model place (t .0) (t2 .0) ⌝ }
 {
     let first = ask(model, place, t);
     let reached = first.place;
-    let second = ask(model, reached, u);
+    let second = ask(model, reached, t2);
     AskedTwo { first, second }
 }
 
-// A saved pair, kept at stride 0 alone.
-fn kept_pair(n: u32, x: f64) -> f64
-    ensures { λ r. ⌜ r ≡ Q.keptPair n x ⌝ }
+// Two times, the second at the position that the first leaves. Once both positions are reached neither
+// row waits for the other, so that two at once take less time.
+fn ask_two(model: Model, place: Place, t: Microseconds, t2: Microseconds) -> AskedTwo
+    ensures { λ r. ⌜ r ≡ askedTwo model place (t .0) (t2 .0) ⌝ }
 {
-    if n == 0 {
-        return x;
-    }
-    0.0
-}
-
-// The position that a time without resonance leaves.
-fn still(place: Place) -> Place
-    ensures { λ r. ⌜ r ≡ Q.still place ⌝ }
-{
-    let strides = place.strides;
-    let n = strides.0;
-    Place {
-        side: Side::Forward,
-        strides: Strides(0),
-        xli: kept_pair(n, place.xli),
-        xni: kept_pair(n, place.xni),
-    }
-}
-
-// Rows of a near-Earth satellite do not wait for each other, so that two at once take less time.
-fn ask_near(near: NearEarth, place: Place, t: Microseconds, u: Microseconds) -> AskedTwo
-    ensures { λ r. ⌜ r ≡ Q.askedTwo (record { near = near; method = Method.NearEarth }) place (t .0) (u .0) ⌝ }
-{
-    if in_range(t) & in_range(u) {
-        let rows = near_rows_at(near, t, u);
+    if in_range(t) & in_range(t2) {
+        let a = reached(model, place, t);
+        let p = a.place;
+        let strides = a.strides;
+        let b = reached(model, p, t2);
+        let p2 = b.place;
+        let strides2 = b.strides;
+        let rows = rows_at(model, p, t, p2, t2);
         let row = rows.first;
-        let next = rows.second;
-        let reached = still(place);
+        let row2 = rows.second;
         return AskedTwo {
             first: Asked {
                 row,
-                strides: Strides(0),
-                place: reached,
+                strides,
+                place: p,
             },
             second: Asked {
-                row: next,
-                strides: Strides(0),
-                place: reached,
+                row: row2,
+                strides: strides2,
+                place: p2,
             },
         };
     }
-    let model = Model {
-        near,
-        method: Method::NearEarth,
-    };
-    ask_each(model, place, t, u)
-}
-
-fn ask_by(
-    near: NearEarth,
-    method: Method,
-    place: Place,
-    t: Microseconds,
-    u: Microseconds,
-) -> AskedTwo
-    ensures { λ r. ⌜ r ≡ Q.askedTwo (record { near = near; method = method }) place (t .0) (u .0) ⌝ }
-{
-    match method {
-        Method::NearEarth => ask_near(near, place, t, u),
-        Method::DeepSpace(d) => {
-            let model = Model {
-                near,
-                method: Method::DeepSpace(d),
-            };
-            ask_each(model, place, t, u)
-        }
-    }
-}
-
-// Two times, one after the other.
-fn ask_two(model: Model, place: Place, t: Microseconds, u: Microseconds) -> AskedTwo
-    ensures { λ r. ⌜ r ≡ Q.askedTwo model place (t .0) (u .0) ⌝ }
-{
-    let near = model.near;
-    let method = model.method;
-    ask_by(near, method, place, t, u)
+    ask_each(model, place, t, t2)
 }
 
 // The row of one time in microseconds since the epoch.
@@ -226,42 +172,9 @@ fn put_row(refusals: &mut [u8], states: &mut [f64], rounds: &mut [u8], i: usize,
     rounds[i] = row.rounds;
 }
 
-// A row for each time, in rooms that are long enough. The model does not change: the loop carries
-// the saved position alone.
-fn fill_each(
-    model: Model,
-    place: Place,
-    times: &[i64],
-    refusals: &mut [u8],
-    states: &mut [f64],
-    rounds: &mut [u8],
-) -> Filled
-    requires { ⌜ length (now times) ≤ 1024 ⌝ }
-    requires { ⌜ length (now times) ≤ length (now refusals) ⌝ }
-    requires { ⌜ 6 * length (now times) ≤ length (now states) ⌝ }
-    requires { ⌜ length (now times) ≤ length (now rounds) ⌝ }
-    ensures { λ r. ⌜ L.Done (now (times .entry)) (now (refusals .entry)) (now (states .entry)) (now (rounds .entry)) model place (now (refusals .exit)) (now (states .exit)) (now (rounds .exit)) (r .place) (r .strides .0) ⌝ }
-{
-    let mut p = place;
-    let mut total: u32 = 0;
-    let mut i = 0;
-    while i < times.len() {
-        let t = times[i];
-        let a = ask(model, p, Microseconds(t));
-        let row = a.row;
-        put_row(refusals, states, rounds, i, row);
-        total += a.strides.0;
-        p = a.place;
-        i += 1;
-    }
-    Filled {
-        strides: Strides(total),
-        place: p,
-    }
-}
-
-// The same, the times taken two by two.
-fn fill_two(
+// A row for each time, in rooms that are long enough; the times are taken two by two. The model does
+// not change: the loop carries the saved position alone.
+fn fill(
     model: Model,
     place: Place,
     times: &[i64],
@@ -305,35 +218,6 @@ fn fill_two(
         strides: Strides(total),
         place: p,
     }
-}
-
-// Either gives the same; which is the faster turns on the method.
-fn by_twos(method: Method) -> bool {
-    match method {
-        Method::NearEarth => true,
-        Method::DeepSpace(_) => false,
-    }
-}
-
-fn fill(
-    model: Model,
-    place: Place,
-    times: &[i64],
-    refusals: &mut [u8],
-    states: &mut [f64],
-    rounds: &mut [u8],
-) -> Filled
-    requires { ⌜ length (now times) ≤ 1024 ⌝ }
-    requires { ⌜ length (now times) ≤ length (now refusals) ⌝ }
-    requires { ⌜ 6 * length (now times) ≤ length (now states) ⌝ }
-    requires { ⌜ length (now times) ≤ length (now rounds) ⌝ }
-    ensures { λ r. ⌜ L.Done (now (times .entry)) (now (refusals .entry)) (now (states .entry)) (now (rounds .entry)) model place (now (refusals .exit)) (now (states .exit)) (now (rounds .exit)) (r .place) (r .strides .0) ⌝ }
-{
-    let method = model.method;
-    if by_twos(method) {
-        return fill_two(model, place, times, refusals, states, rounds);
-    }
-    fill_each(model, place, times, refusals, states, rounds)
 }
 
 // The number that a list is refused with, from the lengths of the times and the rooms; 0 where it is

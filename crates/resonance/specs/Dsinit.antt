@@ -225,10 +225,13 @@ startOf kinds.None e s theta = record { xlamo = dec 0 0; xfact = dec 0 0 }
 startOf (kinds.OneDay d) e s theta = oneDayStart e s theta
 startOf (kinds.HalfDay d) e s theta = halfDayStart e s theta
 
--- 2368, and what the integration rests on from then
-unfoldable pub dsinitOf : Orbit → Epoch → SecularRates → Float → Integrator
-dsinitOf o e s tc =
-    let aonv = pow23 (o .nm ⊘ xke) in
+-- 2368, of the mean motion alone
+unfoldable pub aonvOf : Float → Float
+aonvOf nm = pow23 (nm ⊘ xke)
+
+-- what the integration rests on from then
+unfoldable pub dsinitFrom : Orbit → Float → Epoch → SecularRates → Float → Integrator
+dsinitFrom o aonv e s tc =
     let kind = kindOf o aonv in
     let start = startOf kind e s (thetaOf (e .gsto) tc) in
     record {
@@ -240,3 +243,6 @@ dsinitOf o e s tc =
       argpdot = e .argpdot;
       gsto = e .gsto;
     }
+
+unfoldable pub dsinitOf : Orbit → Epoch → SecularRates → Float → Integrator
+dsinitOf o e s tc = dsinitFrom o (aonvOf (o .nm)) e s tc

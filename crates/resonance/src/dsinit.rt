@@ -291,11 +291,17 @@ fn start_of(kind: Resonance, e: Epoch, s: SecularRates, theta: f64) -> Start
     }
 }
 
-// `tc` is 0 at set-up.
-pub fn dsinit(o: Orbit, e: Epoch, s: SecularRates, tc: f64) -> Integrator
-    ensures { λ r. ⌜ r ≡ D.dsinitOf o e s tc ⌝ }
+// Of the mean motion; it is the longest step of dsinit, and can begin early.
+pub fn aonv_of(nm: f64) -> f64
+    ensures { λ r. ⌜ r ≡ D.aonvOf nm ⌝ }
 {
-    let aonv = elementary::two_thirds(o.nm / wgs72::xke());
+    elementary::two_thirds(nm / wgs72::xke())
+}
+
+// `aonv` is aonv_of the orbit's mean motion; `tc` is 0 at set-up.
+pub fn dsinit(o: Orbit, aonv: f64, e: Epoch, s: SecularRates, tc: f64) -> Integrator
+    ensures { λ r. ⌜ r ≡ D.dsinitFrom o aonv e s tc ⌝ }
+{
     let resonance = kind_of(o, aonv);
     let theta = theta_of(e.gsto, tc);
     let start = start_of(resonance, e, s, theta);

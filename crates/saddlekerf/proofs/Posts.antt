@@ -16,7 +16,7 @@ use Rattle.requests.specs.Request.{answered}
 use Rattle.requests.specs.Lists as L
 use Rattle.storage.specs.Storage.{tooShort, satelliteOf, placedNumbers, placedMarks}
 use Rattle.saddlekerf.specs.Answer.{answer}
-use Rattle.saddlekerf.specs.Requests.{requestShort, rowPut, Requested, RequestPost, listNumber, savedNumbers, savedMarks, ListPost}
+use Rattle.saddlekerf.specs.Requests.{requestShort, rowPut, keptNumbers, keptMarks, Requested, RequestPost, listNumber, savedNumbers, savedMarks, ListPost}
 
 -- ── one time ──
 
@@ -33,13 +33,13 @@ module _ (ns : List Float) (ms : List ℕ) (t : ℤ) (state : List Float) where
   memory-short h k r e = refused _ (rw (le-ltb _ _ h, k)) _ r e
 
   full : (b : Bool) → b ≡ false → (x y : Answered) (r : ℕ) (ns′ : List Float) (ms′ : List ℕ) (state′ : List Float) → x ≡ y
-      → r ≡ answer (x .row .refusal) (x .row .rounds) 0 (x .strides .0) → ns′ ≡ placedNumbers (x .satellite .place) ns ms → ms′ ≡ placedMarks (x .satellite .place) ns ms → state′ ≡ rowPut (x .row) state
+      → r ≡ answer (x .row .refusal) (x .row .rounds) 0 (x .strides .0) → ns′ ≡ keptNumbers (x .row .refusal) (x .satellite .place) ns ms → ms′ ≡ keptMarks (x .row .refusal) (x .satellite .place) ns ms → state′ ≡ rowPut (x .row) state
       → Requested b y ns ms state r ns′ ms′ state′
   full b e x y r ns′ ms′ state′ w h hn hm hs = rw (e, ← w) (record { answered = h; numbers = hn; marks = hm; states = hs })
 
   pub request-full : 6 ≤ length state → (s : Satellite) → (tooShort (length ns) (length ms) ≡ false) × (s ≡ satelliteOf ns ms)
       → (x : Answered) (u : ℤ) (r : ℕ) (ns′ : List Float) (ms′ : List ℕ) (state′ : List Float) → x ≡ answered s u → u ≡ t
-      → r ≡ answer (x .row .refusal) (x .row .rounds) 0 (x .strides .0) → ns′ ≡ placedNumbers (x .satellite .place) ns ms → ms′ ≡ placedMarks (x .satellite .place) ns ms → state′ ≡ rowPut (x .row) state
+      → r ≡ answer (x .row .refusal) (x .row .rounds) 0 (x .strides .0) → ns′ ≡ keptNumbers (x .row .refusal) (x .satellite .place) ns ms → ms′ ≡ keptMarks (x .row .refusal) (x .satellite .place) ns ms → state′ ≡ rowPut (x .row) state
       → RequestPost ns ms t state r ns′ ms′ state′
   unfolding requestShort
   request-full h s l x u r ns′ ms′ state′ e i =
@@ -48,6 +48,12 @@ module _ (ns : List Float) (ms : List ℕ) (t : ℤ) (state : List Float) where
 -- ── a list ──
 
 module _ (k : ℕ) (p : Place) (ns : List Float) (ms : List ℕ) where
+  pub nine : k ≡ 9 → (ns ≡ keptNumbers k p ns ms) × (ms ≡ keptMarks k p ns ms)
+  nine e = (rw (eq-eqb k 9 e), rw (eq-eqb k 9 e))
+
+  pub not-nine : {ns′ : List Float} {ms′ : List ℕ} → (k ≡ 9 → ⊥) → ns′ ≡ placedNumbers p ns ms → ms′ ≡ placedMarks p ns ms → (ns′ ≡ keptNumbers k p ns ms) × (ms′ ≡ keptMarks k p ns ms)
+  not-nine d hn hm = (rw (ne-eqb k 9 d) hn, rw (ne-eqb k 9 d) hm)
+
   pub not-saved : (k ≡ 0 → ⊥) → (ns ≡ savedNumbers k p ns ms) × (ms ≡ savedMarks k p ns ms)
   not-saved d = (rw (ne-eqb k 0 d), rw (ne-eqb k 0 d))
 

@@ -21,13 +21,14 @@ use Rattle.opening.proofs.Made.{made-of}
 use Rattle.requests.specs.Request.{answered}
 use Rattle.requests.specs.Lists.{satelliteFrom, listRefusal}
 use Rattle.requests.specs.Demand3 as D
+use Rattle.requests.proofs.Nine.{nine-or-not}
 use Rattle.requests.proofs.Demand3.{demand-3}
 use Rattle.storage.specs.Storage.{tooShort, satelliteOf, placeNumbers, placeMarks, storeRefusal, storedNumbers, storedMarks, placedNumbers, placedMarks}
 use Rattle.storage.proofs.Rooms.{enough, length-numbers, length-marks}
 use Rattle.storage.proofs.Kept.{kept, placed}
 use Rattle.saddlekerf.specs.Answer.{answer, refusalAnswer}
 use Rattle.saddlekerf.specs.Pairs.{openAnswer, openNumbers, openMarks}
-use Rattle.saddlekerf.specs.Requests.{requestShort, Requested, listNumber, Listed}
+use Rattle.saddlekerf.specs.Requests.{requestShort, keptNumbers, keptMarks, Requested, listNumber, Listed}
 use Rattle.saddlekerf.specs.Sequences.{Memory, openedIn, Call, One, Many, Does, Calls, asks, requestsOf, after, Tells, Told, Sequences}
 
 absurd : {B : Type 0} → ⊥ → B
@@ -66,10 +67,17 @@ moved {ns} {ns′} {ms} {ms′} {s} {s′} a b c h = rw (a, b, ← c) h
 
 -- ── one time ──
 
+kept-holds : (t : ℤ) (s : Satellite) (ns : List Float) (ms : List ℕ) → Holds ns ms s
+    → Holds (keptNumbers (answered s t .row .refusal) (answered s t .satellite .place) ns ms) (keptMarks (answered s t .row .refusal) (answered s t .satellite .place) ns ms) (answered s t .satellite)
+kept-holds t s ns ms h =
+    nine-or-not (s .model) (s .place) t
+    (λ (b : Bool) (p : Place). Holds (cond b ns (placedNumbers p ns ms)) (cond b ms (placedMarks p ns ms)) (record { model = s .model; place = p }))
+    h (placed-holds _ ns ms s h)
+
 one-by : (b : Bool) (t : ℤ) (s : Satellite) (ns : List Float) (ms : List ℕ) (state : List Float) (r : ℕ) (ns′ : List Float) (ms′ : List ℕ) (state′ : List Float)
     → Holds ns ms s → Requested (b || false) (answered s t) ns ms state r ns′ ms′ state′ → Holds ns′ ms′ (after s (cond b [] (D.One t ∷ [])))
 one-by true t s ns ms state r ns′ ms′ state′ h p = moved (p .numbers) (p .marks) refl h
-one-by false t s ns ms state r ns′ ms′ state′ h p = moved (p .numbers) (p .marks) refl (placed-holds (answered s t .satellite .place) ns ms s h)
+one-by false t s ns ms state r ns′ ms′ state′ h p = moved (p .numbers) (p .marks) refl (kept-holds t s ns ms h)
 
 or-false : (b : Bool) → b || false ≡ b
 or-false true = refl

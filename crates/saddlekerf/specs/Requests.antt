@@ -26,11 +26,18 @@ requestShort ns ms state = ltb (length state) 6 || tooShort (length ns) (length 
 unfoldable pub rowPut : Row → List Float → List Float
 rowPut r state = cond (eqb (r .refusal) 0) (over (stateOf r) state) state
 
+-- "refusal 9 [..] leaves the satellite unchanged": it writes nothing. After every other row the position reached is saved
+abbrev pub keptNumbers : ℕ → Place → List Float → List ℕ → List Float
+keptNumbers refusal p ns ms = cond (eqb refusal 9) ns (placedNumbers p ns ms)
+
+abbrev pub keptMarks : ℕ → Place → List Float → List ℕ → List ℕ
+keptMarks refusal p ns ms = cond (eqb refusal 9) ms (placedMarks p ns ms)
+
 -- the answer, and every element of the memory afterwards, from the answer x of the satellite in memory: of the satellite, only the saved position
 pub record Requested (short : Bool) (x : Answered) (ns : List Float) (ms : List ℕ) (state : List Float) (r : ℕ) (ns′ : List Float) (ms′ : List ℕ) (state′ : List Float) : Type 0 where
   pub answered : r ≡ cond short (answer 17 0 0 0) (answer (x .row .refusal) (x .row .rounds) 0 (x .strides .0))
-  pub numbers : ns′ ≡ cond short ns (placedNumbers (x .satellite .place) ns ms)
-  pub marks : ms′ ≡ cond short ms (placedMarks (x .satellite .place) ns ms)
+  pub numbers : ns′ ≡ cond short ns (keptNumbers (x .row .refusal) (x .satellite .place) ns ms)
+  pub marks : ms′ ≡ cond short ms (keptMarks (x .row .refusal) (x .satellite .place) ns ms)
   pub states : state′ ≡ cond short state (rowPut (x .row) state)
 
 abbrev pub RequestPost : List Float → List ℕ → ℤ → List Float → ℕ → List Float → List ℕ → List Float → Type 0

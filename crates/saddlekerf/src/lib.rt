@@ -9,7 +9,6 @@ ghost use Rattle.text.specs.Output.{fronted};
 ghost use Rattle.listing.specs.Listing as T;
 ghost use Rattle.opening.specs.Opening.{openPairOf};
 ghost use Rattle.opening.specs.Opening as O;
-ghost use Rattle.storage.specs.Storage.{placedNumbers, placedMarks};
 ghost use Rattle.saddlekerf.specs.Answer.{answer, fieldNumber, refusalAnswer, readingAnswer, ColumnFits};
 ghost use Rattle.saddlekerf.specs.Pairs as P;
 ghost use Rattle.saddlekerf.specs.Requests as R;
@@ -23,6 +22,7 @@ use requests::Answered;
 use requests::ListAnswer;
 use requests::request;
 use requests::request_list;
+use resonance::place::Place;
 use sgp4::Row;
 use storage::Loading;
 use storage::load;
@@ -167,19 +167,30 @@ fn put_row(row: Row, state: &mut [f64])
     }
 }
 
+// The position that a row leaves, into the satellite's memory; after refusal 9 nothing is written.
+fn keep_place(refusal: u8, place: Place, numbers: &mut [f64], marks: &mut [u32])
+    ensures { λ _. ⌜ now (numbers .exit) ≡ R.keptNumbers refusal place (now (numbers .entry)) (now (marks .entry)) ⌝ }
+    ensures { λ _. ⌜ now (marks .exit) ≡ R.keptMarks refusal place (now (numbers .entry)) (now (marks .entry)) ⌝ }
+{
+    if refusal == 9 {
+        return;
+    }
+    let _ = store_place(place, numbers, marks);
+}
+
 // The answer to one time; the position reached goes into the satellite's memory.
 fn put_answer(a: Answered, numbers: &mut [f64], marks: &mut [u32], state: &mut [f64]) -> u64
     requires { ⌜ 6 ≤ length (now state) ⌝ }
     ensures { λ r. ⌜ r ≡ answer (a .row .refusal) (a .row .rounds) 0 (a .strides .0) ⌝ }
-    ensures { λ _. ⌜ now (numbers .exit) ≡ placedNumbers (a .satellite .place) (now (numbers .entry)) (now (marks .entry)) ⌝ }
-    ensures { λ _. ⌜ now (marks .exit) ≡ placedMarks (a .satellite .place) (now (numbers .entry)) (now (marks .entry)) ⌝ }
+    ensures { λ _. ⌜ now (numbers .exit) ≡ R.keptNumbers (a .row .refusal) (a .satellite .place) (now (numbers .entry)) (now (marks .entry)) ⌝ }
+    ensures { λ _. ⌜ now (marks .exit) ≡ R.keptMarks (a .row .refusal) (a .satellite .place) (now (numbers .entry)) (now (marks .entry)) ⌝ }
     ensures { λ _. ⌜ now (state .exit) ≡ R.rowPut (a .row) (now (state .entry)) ⌝ }
 {
     let row = a.row;
     let satellite = a.satellite;
     let reached = satellite.place;
     let strides = a.strides;
-    let _ = store_place(reached, numbers, marks);
+    keep_place(row.refusal, reached, numbers, marks);
     put_row(row, state);
     answer(row.refusal, row.rounds, 0, strides.0)
 }

@@ -3,12 +3,10 @@ use Prim.Native.Nat.{ℕ}
 use lib.IntN.{ℤ}
 use Rattle.elementary.specs.Notation.{dec}
 use Rattle.instant.specs.Quantity.{minutesOf}
-use Rattle.satellite.specs.declared.NearEarth.{NearEarth}
 use Rattle.satellite.specs.declared.Model.{Model}
 use Rattle.state.specs.declared.answer.Answer.{Answer}
 use Rattle.state.specs.declared.answer.Answer.the-variants.{Given, Refused}
 use Rattle.state.specs.Answer.{number}
-use Rattle.state.specs.Sgp4.{sgp4}
 use Rattle.resonance.specs.declared.place.Place.{Place}
 use Rattle.sgp4.specs.declared.Row.{Row}
 use Rattle.sgp4.specs.Sgp4.{stateAt}
@@ -24,7 +22,3 @@ rowOf (Refused why) = refusedRow (number why)
 -- the row of a time in range, in microseconds; `p` is the position of the whole strides that it needs
 unfoldable pub rowAt : Model → Place → ℤ → Row
 rowAt k p t = rowOf (stateAt k p (record { 0 = minutesOf t }))
-
--- the same of a near-Earth satellite
-unfoldable pub nearRowAt : NearEarth → ℤ → Row
-nearRowAt s t = rowOf (sgp4 s (minutesOf t))

@@ -3,7 +3,9 @@
 ghost use mathlib.Core.Path.{_≡_};
 ghost use Rattle.sgp4.specs.Sgp4 as S;
 ghost use Rattle.sgp4.specs.Row as R;
+ghost use Rattle.sgp4.specs.Two as W;
 use deep_space::deep_space;
+use deep_space::deep_two;
 use instant::Microseconds;
 use instant::Minutes;
 use instant::to_minutes;
@@ -14,7 +16,11 @@ use satellite::Model;
 use satellite::NearEarth;
 use satellite::Resonance;
 use state::answer::Answer;
+use state::answer::Pair;
 use state::answer::number;
+use state::parts::ReadyPair;
+use state::sgp4::pair_of;
+use state::sgp4::ready_two;
 
 pub mod deep_space;
 
@@ -119,17 +125,30 @@ pub fn row_at(model: Model, p: Place, t: Microseconds) -> Row
     row_of(state_at(model, p, to_minutes(t)))
 }
 
-// The rows of two times in range of a near-Earth satellite, which has no use for a position.
-pub fn near_rows_at(s: NearEarth, t: Microseconds, u: Microseconds) -> Rows
-    ensures { λ r. ⌜ r ≡ record { first = R.nearRowAt s (t .0); second = R.nearRowAt s (u .0) } ⌝ }
+fn ready_by(s: NearEarth, method: Method, p: Place, t: Minutes, p2: Place, t2: Minutes) -> ReadyPair
+    ensures { λ r. ⌜ r ≡ W.readyBy s method p t p2 t2 ⌝ }
 {
-    let a = to_minutes(t);
-    let b = to_minutes(u);
-    let two = state::sgp4::sgp4_two(s, a.0, b.0);
-    let x = two.first;
-    let y = two.second;
-    Rows {
-        first: row_of(x),
-        second: row_of(y),
+    match method {
+        Method::NearEarth => ready_two(s, t.0, t2.0),
+        Method::DeepSpace(d) => deep_two(s, d, p, t, p2, t2),
+    }
+}
+
+// The rows of two times in range, side by side; `p` and `p2` are the positions of the whole strides that
+// they need.
+pub fn rows_at(model: Model, p: Place, t: Microseconds, p2: Place, t2: Microseconds) -> Rows
+    ensures { λ r. ⌜ r ≡ record { first = R.rowAt model p (t .0); second = R.rowAt model p2 (t2 .0) } ⌝ }
+{
+    let near = model.near;
+    let method = model.method;
+    match pair_of(ready_by(near, method, p, to_minutes(t), p2, to_minutes(t2))) {
+        Pair::Both(a, b) => Rows {
+            first: row_of(a),
+            second: row_of(b),
+        },
+        Pair::Apart => Rows {
+            first: row_at(model, p, t),
+            second: row_at(model, p2, t2),
+        },
     }
 }

@@ -1,9 +1,76 @@
--- Two times at once: both answers, where there are any, are those of each by itself. Definitions only.
+-- Two times at once, step by step, as long as neither is refused; they serve speed alone. proofs/Two: what they come to is what each time comes to by
+-- itself. Definitions only.
+use Prim.Native.Nat.{ℕ}
 use mathlib.Core.Path.{_≡_}
+use mathlib.Core.Bool.{cond, _||_}
+use lib.Ieee.{Float}
+use Rattle.satellite.specs.declared.NearEarth.{NearEarth}
+use Rattle.state.specs.declared.parts.Secular.{Secular}
+use Rattle.state.specs.declared.parts.Mean.{Mean}
+use Rattle.state.specs.declared.parts.Short.{Short}
+use Rattle.state.specs.declared.parts.Ready.{Ready}
+use Rattle.state.specs.declared.parts.Solved.{Solved}
+use Rattle.state.specs.declared.parts.ReadyPair.{ReadyPair}
+use Rattle.state.specs.declared.parts.ReadyPair.the-variants as ready
 use Rattle.state.specs.declared.answer.Answer.{Answer}
 use Rattle.state.specs.declared.answer.Pair.{Pair}
 use Rattle.state.specs.declared.answer.Pair.the-variants.{Both, Apart}
+use Rattle.state.specs.Secular.{secular, noMotion, mean, outside, angles}
+use Rattle.state.specs.Kepler.{kepler}
+use Rattle.state.specs.Periodics.{longPeriod, latus, negativeLatus, plane, shortPeriod, decayed}
+use Rattle.state.specs.Orientation.{state}
+use Rattle.state.specs.Sgp4.{given, periodics, unperturbed}
 
+-- both answers, where there are any, are those of each time by itself
 abbrev pub Same : Pair → Answer → Answer → Type 0
 Same (Both a b) x y = (a ≡ x) × (b ≡ y)
 Same Apart x y = Unit {0}
+
+-- what is ready for both times, where it is, leads to the answer of each by itself
+abbrev pub Readied : ReadyPair → Answer → Answer → Type 0
+Readied (ready.Both a b) x y = (periodics (a .p) (a .m) (a .k) ≡ x) × (periodics (b .p) (b .m) (b .k) ≡ y)
+Readied ready.Apart x y = Unit {0}
+
+-- refusal 14 for neither, then orientation, position and velocity
+unfoldable pub placedTwo : Short → ℕ → Short → ℕ → Pair
+placedTwo s k u n = cond (decayed s || decayed u) Apart (Both (given (state s) k) (given (state u) n))
+
+-- refusal 13 for neither, then the short-period terms
+unfoldable pub shortenedTwo : Solved → Solved → Pair
+shortenedTwo a b =
+    cond (negativeLatus (a .l) || negativeLatus (b .l)) Apart
+    (placedTwo
+    (shortPeriod (a .p) (a .m .nm) (a .k) (plane (a .q) (a .e) (a .m) (a .l)))
+    (a .e .rounds)
+    (shortPeriod (b .p) (b .m .nm) (b .k) (plane (b .q) (b .e) (b .m) (b .l)))
+    (b .e .rounds))
+
+-- Kepler's equation, solved
+unfoldable pub solvedOf : Ready → Solved
+solvedOf a =
+    let q = longPeriod (a .p) (a .m .am) (a .k) in
+    record { p = a .p; m = a .m; k = a .k; q = q; e = kepler q; l = latus q (a .m .am) }
+
+-- from the long-period terms on
+unfoldable pub periodicsTwo : Ready → Ready → Pair
+periodicsTwo a b = shortenedTwo (solvedOf a) (solvedOf b)
+
+unfoldable pub pairOf : ReadyPair → Pair
+pairOf (ready.Both a b) = periodicsTwo a b
+pairOf ready.Apart = Apart
+
+-- a near-Earth satellite's mean elements, made ready
+unfoldable pub readyOf : NearEarth → Secular → Mean → Ready
+readyOf s g m = record { p = unperturbed s (m .em) (angles (s .elements .no) g); m = m; k = s .terms }
+
+-- refusal 11 for neither
+unfoldable pub averagedTwo : NearEarth → Secular → Mean → Secular → Mean → ReadyPair
+averagedTwo s g m g2 m2 = cond (outside m || outside m2) ready.Apart (ready.Both (readyOf s g m) (readyOf s g2 m2))
+
+-- refusal 10 for neither
+unfoldable pub readyTwo : NearEarth → Float → Float → ReadyPair
+readyTwo s t t2 =
+    let g = secular s t in
+    let g2 = secular s t2 in
+    cond (noMotion (s .elements .no)) ready.Apart
+    (averagedTwo s g (mean (s .kept .ao) (s .elements .ecco) g) g2 (mean (s .kept .ao) (s .elements .ecco) g2))

@@ -28,12 +28,6 @@ pub enum Answer {
     Refused(Refusal),
 }
 
-// The answers for two times.
-pub struct Answers {
-    pub first: Answer,
-    pub second: Answer,
-}
-
 // What working on two times at once comes to: both answers, or nothing where either may be refused.
 pub enum Pair {
     Both(Answer, Answer),

@@ -1,4 +1,5 @@
 // What one step of sgp4 hands to the next, under 002's names.
+use satellite::Terms;
 
 // The angles and the drag at a time.
 pub struct Secular {
@@ -36,6 +37,19 @@ pub struct Perturbed {
     pub cosip: f64,
 }
 
+// What the long-period terms begin with.
+pub struct Ready {
+    pub p: Perturbed,
+    pub m: Mean,
+    pub k: Terms,
+}
+
+// The same of two times, or nothing where either is refused.
+pub enum ReadyPair {
+    Both(Ready, Ready),
+    Apart,
+}
+
 // With the long-period terms.
 pub struct Long {
     pub axnl: f64,
@@ -64,6 +78,7 @@ pub struct Latus {
 pub struct Solved {
     pub p: Perturbed,
     pub m: Mean,
+    pub k: Terms,
     pub q: Long,
     pub e: Anomaly,
     pub l: Latus,

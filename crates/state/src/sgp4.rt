@@ -1,9 +1,8 @@
 // 002's sgp4 for a near-Earth satellite, and its steps from the perturbed elements on.
 ghost use mathlib.Core.Path.{_≡_};
 ghost use Rattle.state.specs.Sgp4 as R;
-ghost use Rattle.state.specs.Two.{Same};
+ghost use Rattle.state.specs.Two as W;
 use crate::answer::Answer;
-use crate::answer::Answers;
 use crate::answer::Pair;
 use crate::answer::Refusal;
 use crate::answer::State;
@@ -16,6 +15,8 @@ use crate::parts::Latus;
 use crate::parts::Long;
 use crate::parts::Mean;
 use crate::parts::Perturbed;
+use crate::parts::Ready;
+use crate::parts::ReadyPair;
 use crate::parts::Secular;
 use crate::parts::Short;
 use crate::parts::Solved;
@@ -109,10 +110,11 @@ pub fn sgp4(s: NearEarth, t: f64) -> Answer
 }
 
 // ---- Two times at once. A row is a chain of steps that wait for each other; the steps of two rows
-// side by side fill each other's waits. Where either is refused, each is worked out by itself.
+// side by side fill each other's waits. Where either is refused there is no pair, and each is worked
+// out by itself.
 
 fn placed_two(s: Short, k: u8, u: Short, n: u8) -> Pair
-    ensures { λ r. ⌜ Same r (R.placed s k) (R.placed u n) ⌝ }
+    ensures { λ r. ⌜ r ≡ W.placedTwo s k u n ⌝ }
 {
     if decayed(s) | decayed(u) {
         return Pair::Apart;
@@ -122,92 +124,92 @@ fn placed_two(s: Short, k: u8, u: Short, n: u8) -> Pair
     Pair::Both(given(a, k), given(b, n))
 }
 
-fn shortened_two(x: Solved, y: Solved, k: Terms) -> Pair
-    ensures { λ r. ⌜ Same r (R.shortened (x .p) (x .m) k (x .q) (x .e) (x .l)) (R.shortened (y .p) (y .m) k (y .q) (y .e) (y .l)) ⌝ }
+fn shortened_two(a: Solved, b: Solved) -> Pair
+    ensures { λ r. ⌜ r ≡ W.shortenedTwo a b ⌝ }
 {
-    let p = x.p;
-    let m = x.m;
-    let q = x.q;
-    let e = x.e;
-    let l = x.l;
-    let p2 = y.p;
-    let m2 = y.m;
-    let q2 = y.q;
-    let e2 = y.e;
-    let l2 = y.l;
+    let p = a.p;
+    let m = a.m;
+    let k = a.k;
+    let q = a.q;
+    let e = a.e;
+    let l = a.l;
+    let p2 = b.p;
+    let m2 = b.m;
+    let k2 = b.k;
+    let q2 = b.q;
+    let e2 = b.e;
+    let l2 = b.l;
     if negative_latus(l) | negative_latus(l2) {
         return Pair::Apart;
     }
-    let a = plane(q, e, m, l);
-    let b = plane(q2, e2, m2, l2);
-    let s = short_period(p, m.nm, k, a);
-    let u = short_period(p2, m2.nm, k, b);
+    let c = plane(q, e, m, l);
+    let d = plane(q2, e2, m2, l2);
+    let s = short_period(p, m.nm, k, c);
+    let u = short_period(p2, m2.nm, k2, d);
     placed_two(s, e.rounds, u, e2.rounds)
 }
 
-fn periodics_two(p: Perturbed, m: Mean, p2: Perturbed, m2: Mean, k: Terms) -> Pair
-    ensures { λ r. ⌜ Same r (R.periodics p m k) (R.periodics p2 m2 k) ⌝ }
+// From the long-period terms on.
+fn periodics_two(a: Ready, b: Ready) -> Pair
+    ensures { λ r. ⌜ r ≡ W.periodicsTwo a b ⌝ }
 {
+    let p = a.p;
+    let m = a.m;
+    let k = a.k;
+    let p2 = b.p;
+    let m2 = b.m;
+    let k2 = b.k;
     let q = long_period(p, m.am, k);
-    let q2 = long_period(p2, m2.am, k);
+    let q2 = long_period(p2, m2.am, k2);
     let l = latus(q, m.am);
     let l2 = latus(q2, m2.am);
     let e = kepler(q);
     let e2 = kepler(q2);
-    let x = Solved { p, m, q, e, l };
-    let y = Solved {
+    let first = Solved { p, m, k, q, e, l };
+    let second = Solved {
         p: p2,
         m: m2,
+        k: k2,
         q: q2,
         e: e2,
         l: l2,
     };
-    shortened_two(x, y, k)
+    shortened_two(first, second)
 }
 
-fn averaged_two(s: NearEarth, g: Secular, m: Mean, g2: Secular, m2: Mean) -> Pair
-    ensures { λ r. ⌜ Same r (R.averaged s g m) (R.averaged s g2 m2) ⌝ }
+// The answers for two times that are ready for the long-period terms.
+pub fn pair_of(r: ReadyPair) -> Pair
+    ensures { λ y. ⌜ y ≡ W.pairOf r ⌝ }
+{
+    match r {
+        ReadyPair::Both(a, b) => periodics_two(a, b),
+        ReadyPair::Apart => Pair::Apart,
+    }
+}
+
+fn averaged_two(s: NearEarth, g: Secular, m: Mean, g2: Secular, m2: Mean) -> ReadyPair
+    ensures { λ r. ⌜ r ≡ W.averagedTwo s g m g2 m2 ⌝ }
 {
     if outside(m) | outside(m2) {
-        return Pair::Apart;
+        return ReadyPair::Apart;
     }
     let no = s.elements.no;
     let k = s.terms;
     let p = unperturbed(s, m.em, angles(no, g));
     let p2 = unperturbed(s, m2.em, angles(no, g2));
-    periodics_two(p, m, p2, m2, k)
+    ReadyPair::Both(Ready { p, m, k }, Ready { p: p2, m: m2, k })
 }
 
-fn moved_two(s: NearEarth, t: f64, u: f64) -> Pair
-    ensures { λ r. ⌜ Same r (R.sgp4 s t) (R.sgp4 s u) ⌝ }
+// A near-Earth satellite at t and at t2 minutes from the epoch, up to the long-period terms.
+pub fn ready_two(s: NearEarth, t: f64, t2: f64) -> ReadyPair
+    ensures { λ r. ⌜ r ≡ W.readyTwo s t t2 ⌝ }
 {
     let g = secular(s, t);
-    let g2 = secular(s, u);
+    let g2 = secular(s, t2);
     if no_motion(s.elements.no) {
-        return Pair::Apart;
+        return ReadyPair::Apart;
     }
     let ao = s.kept.ao;
     let ecco = s.elements.ecco;
     averaged_two(s, g, mean(ao, ecco, g), g2, mean(ao, ecco, g2))
-}
-
-fn settled(r: Pair, s: NearEarth, t: f64, u: f64) -> Answers
-    requires { ⌜ Same r (R.sgp4 s t) (R.sgp4 s u) ⌝ }
-    ensures { λ y. ⌜ y ≡ record { first = R.sgp4 s t; second = R.sgp4 s u } ⌝ }
-{
-    match r {
-        Pair::Both(first, second) => Answers { first, second },
-        Pair::Apart => Answers {
-            first: sgp4(s, t),
-            second: sgp4(s, u),
-        },
-    }
-}
-
-// The states at t and at u minutes from the epoch.
-pub fn sgp4_two(s: NearEarth, t: f64, u: f64) -> Answers
-    ensures { λ r. ⌜ r ≡ record { first = R.sgp4 s t; second = R.sgp4 s u } ⌝ }
-{
-    let r = moved_two(s, t, u);
-    settled(r, s, t, u)
 }

@@ -5,8 +5,8 @@ use Rattle.saddlekerf.proofs.put_answer.Tie as tie
 returns : tie.Need-returns
 returns c =
     let p = c .before .before .before in
-    let f = p .before .before .before .before .before .before .store-place .ensures in
-    (c .answer .ensures, (f .1 .0, (f .1 .1, p .put-row .ensures)))
+    let f = p .before .before .before .before .before .before .keep-place .ensures in
+    (c .answer .ensures, (f .0, (f .1, p .put-row .ensures)))
 
 pub put-answer-spec : {M : Type 1} → statement M
 put-answer-spec =

@@ -5,8 +5,8 @@ use lib.ListN.{length}
 use mir.Syntax.{w64}
 use mir.ValLaws.{toZ-ofZ}
 use Rattle.requests.proofs.Filling.{Filling, filling-none, filling-put, filling-two, filling-done, few-of, first-of, second-of}
-use Rattle.requests.proofs.fill_two.Statement.{statement}
-use Rattle.requests.proofs.fill_two.Tie as tie
+use Rattle.requests.proofs.fill.Statement.{statement}
+use Rattle.requests.proofs.fill.Tie as tie
 
 abbrev Inv-loop : tie.InvT-loop
 Inv-loop model times refusals₀ states₀ rounds₀ p₀ total₀ i₀ refusals states rounds p total i =
@@ -63,8 +63,8 @@ returns-2 : tie.Need-returns-2 Inv-loop μ-loop
 returns-2 c =
     filling-done (c .before .before .loop .inv) (omega arith)
 
-pub fill-two-spec : {M : Type 1} → statement M
-fill-two-spec =
+pub fill-spec : {M : Type 1} → statement M
+fill-spec =
     tie.close
     (tie.spec
     Inv-loop
