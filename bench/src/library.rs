@@ -3,7 +3,7 @@
 
 use crate::elementary::{Document, Elementary};
 use crate::instant::{self, SPAN_LIMIT};
-use crate::request::{Row, Satellite, LIST_LIMIT, STRIDE};
+use crate::request::{list_by, Row, Satellite, STRIDE};
 use crate::tle::{self, Refusal};
 use std::hint::black_box;
 use std::marker::PhantomData;
@@ -95,7 +95,7 @@ impl<E: Elementary + Copy + 'static> Library for Port<E> {
     }
 
     fn reader(&self, line1: &[u8], line2: &[u8]) -> Box<dyn Timed> {
-        Box::new(Reader { line1: line1.to_vec(), line2: line2.to_vec() })
+        Box::new(Reader { line1: line1.to_vec(), line2: line2.to_vec(), read: tle::read })
     }
 
     fn opener(&self, line1: &[u8], line2: &[u8]) -> Box<dyn Timed> {
@@ -118,16 +118,18 @@ fn opened<E: Elementary>(line1: &[u8], line2: &[u8]) -> Result<Satellite<E>, Uno
     Satellite::open(&record).map_err(Unopened::Refused)
 }
 
-struct Reader {
-    line1: Vec<u8>,
-    line2: Vec<u8>,
+/// Two lines to be read, and what reads them.
+pub struct Reader<R> {
+    pub line1: Vec<u8>,
+    pub line2: Vec<u8>,
+    pub read: fn(&[u8], &[u8]) -> R,
 }
 
-impl Timed for Reader {
+impl<R> Timed for Reader<R> {
     fn renew(&mut self) {}
 
     fn run(&mut self) {
-        let _ = black_box(tle::read(black_box(&self.line1), black_box(&self.line2)));
+        let _ = black_box((self.read)(black_box(&self.line1), black_box(&self.line2)));
     }
 }
 
@@ -276,17 +278,6 @@ impl<E: Elementary> Opened for RestartingSatellite<E> {
     }
 
     fn list(&mut self, times: &[i64], rows: &mut [Row]) -> Result<u64, u8> {
-        if times.len() > LIST_LIMIT {
-            return Err(18);
-        }
-        if rows.len() < times.len() {
-            return Err(17);
-        }
-        let mut sum = 0;
-        for (row, &micros) in rows.iter_mut().zip(times) {
-            *row = self.satellite.request_restarting(micros);
-            sum += self.count(micros);
-        }
-        Ok(sum)
+        list_by(times, rows, |micros| self.request(micros))
     }
 }

@@ -1,6 +1,6 @@
 //! The proved library, called over its C boundary by the safe wrapper in rust/.
 
-use crate::library::{Library, Opened, Timed, Unopened};
+use crate::library::{Library, Opened, Reader, Timed, Unopened};
 use crate::request::Row;
 use crate::tle;
 use saddlekerf::{Field, Line, Microseconds, Refusal, Rooms, Satellite, State};
@@ -71,7 +71,7 @@ impl Library for Proved {
     }
 
     fn reader(&self, line1: &[u8], line2: &[u8]) -> Box<dyn Timed> {
-        Box::new(Reader { line1: line1.to_vec(), line2: line2.to_vec() })
+        Box::new(Reader { line1: line1.to_vec(), line2: line2.to_vec(), read: saddlekerf::read })
     }
 
     fn opener(&self, line1: &[u8], line2: &[u8]) -> Box<dyn Timed> {
@@ -138,19 +138,6 @@ impl Opened for Satellite {
             *row = memory.row(place);
         }
         answer.map(|strides| strides.0 as u64).map_err(Refusal::number)
-    }
-}
-
-struct Reader {
-    line1: Vec<u8>,
-    line2: Vec<u8>,
-}
-
-impl Timed for Reader {
-    fn renew(&mut self) {}
-
-    fn run(&mut self) {
-        let _ = black_box(saddlekerf::read(black_box(&self.line1), black_box(&self.line2)));
     }
 }
 

@@ -130,19 +130,7 @@ impl<E: Elementary> Satellite<E> {
 
     /// A list of times: a row for each, and the strides taken; or 18, 17.
     pub fn list(&mut self, times: &[i64], rows: &mut [Row]) -> Result<u64, u8> {
-        if times.len() > LIST_LIMIT {
-            return Err(18);
-        }
-        if rows.len() < times.len() {
-            return Err(17);
-        }
-        let mut sum = 0;
-        for (row, &micros) in rows.iter_mut().zip(times) {
-            let (answer, strides) = self.request(micros);
-            *row = answer;
-            sum += strides;
-        }
-        Ok(sum)
+        list_by(times, rows, |micros| self.request(micros))
     }
 
     /// 002's own way: the integrator starts at the epoch for every time.
@@ -154,4 +142,21 @@ impl<E: Elementary> Satellite<E> {
         let at = sgp4::epoch_restart::<E>(&self.satrec, t);
         Row::of(sgp4::sgp4::<E>(&self.satrec, t, &at))
     }
+}
+
+/// A list, time by time: a row for each, and the strides of all; or 18, 17.
+pub fn list_by(times: &[i64], rows: &mut [Row], mut one: impl FnMut(i64) -> (Row, u64)) -> Result<u64, u8> {
+    if times.len() > LIST_LIMIT {
+        return Err(18);
+    }
+    if rows.len() < times.len() {
+        return Err(17);
+    }
+    let mut sum = 0;
+    for (row, &micros) in rows.iter_mut().zip(times) {
+        let (answer, strides) = one(micros);
+        *row = answer;
+        sum += strides;
+    }
+    Ok(sum)
 }
