@@ -139,7 +139,8 @@ mod tests {
         satellite.numbers[NO] = -satellite.numbers[NO];
         let times = [Microseconds(0), Microseconds(60_000_000), Microseconds(120_000_000)];
         assert_eq!(satellite.request(times[0]).row.unwrap_err().number(), 10);
-        let (mut refusals, mut states, mut rounds) = ([7; 3], [State::default(); 3], [7; 3]);
+        let before = State { position: [1.0; 3], velocity: [1.0; 3] };
+        let (mut refusals, mut states, mut rounds) = ([7; 3], [before; 3], [7; 3]);
         let mut rooms = Rooms { refusals: &mut refusals, states: &mut states, rounds: &mut rounds };
         satellite.list(&times, &mut rooms).unwrap();
         assert_eq!((refusals, states, rounds), ([10; 3], [State::default(); 3], [0; 3]));

@@ -20,8 +20,8 @@ use Rattle.state.specs.declared.answer.Answer.the-variants.{Refused}
 use Rattle.state.specs.declared.answer.Pair.{Pair}
 use Rattle.state.specs.declared.answer.Pair.the-variants.{Both, Apart}
 use Rattle.state.specs.Secular.{noMotion, outside}
-use Rattle.state.specs.Two.{Same, Readied, pairOf}
-use Rattle.state.proofs.Two.{ready-on, pair-same, near-readied}
+use Rattle.state.specs.Two.{pairOf}
+use Rattle.state.proofs.Two.{Same, Readied, ready-on, pair-same, near-readied}
 use Rattle.lunar_solar.specs.declared.dpper.Perturbed as dpper
 use Rattle.resonance.specs.declared.place.Place.{Place}
 use Rattle.resonance.specs.declared.dspace.Mean as dspace

@@ -19,7 +19,19 @@ use Rattle.state.specs.declared.answer.Pair.the-variants.{Both, Apart}
 use Rattle.state.specs.Secular.{secular, noMotion, mean, outside}
 use Rattle.state.specs.Periodics.{negativeLatus, decayed}
 use Rattle.state.specs.Sgp4.{placed, shortened, periodics, averaged, sgp4}
-use Rattle.state.specs.Two.{Same, Readied, placedTwo, shortenedTwo, solvedOf, periodicsTwo, pairOf, readyOf, averagedTwo, readyTwo}
+use Rattle.state.specs.Two.{placedTwo, shortenedTwo, solvedOf, periodicsTwo, pairOf, readyOf, averagedTwo, readyTwo}
+
+-- ── what is claimed of a pair ──
+
+-- both answers, where there are any, are those of each time by itself
+abbrev pub Same : Pair → Answer → Answer → Type 0
+Same (Both a b) x y = (a ≡ x) × (b ≡ y)
+Same Apart x y = Unit {0}
+
+-- what is ready for both times, where it is, leads to the answer of each by itself
+abbrev pub Readied : ReadyPair → Answer → Answer → Type 0
+Readied (ready.Both a b) x y = (periodics (a .p) (a .m) (a .k) ≡ x) × (periodics (b .p) (b .m) (b .k) ≡ y)
+Readied ready.Apart x y = Unit {0}
 
 -- ── both go on where neither is refused ──
 

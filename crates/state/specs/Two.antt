@@ -1,7 +1,6 @@
 -- Two times at once, step by step, as long as neither is refused; they serve speed alone. proofs/Two: what they come to is what each time comes to by
 -- itself. Definitions only.
 use Prim.Native.Nat.{ℕ}
-use mathlib.Core.Path.{_≡_}
 use mathlib.Core.Bool.{cond, _||_}
 use lib.Ieee.{Float}
 use Rattle.satellite.specs.declared.NearEarth.{NearEarth}
@@ -12,24 +11,13 @@ use Rattle.state.specs.declared.parts.Ready.{Ready}
 use Rattle.state.specs.declared.parts.Solved.{Solved}
 use Rattle.state.specs.declared.parts.ReadyPair.{ReadyPair}
 use Rattle.state.specs.declared.parts.ReadyPair.the-variants as ready
-use Rattle.state.specs.declared.answer.Answer.{Answer}
 use Rattle.state.specs.declared.answer.Pair.{Pair}
 use Rattle.state.specs.declared.answer.Pair.the-variants.{Both, Apart}
 use Rattle.state.specs.Secular.{secular, noMotion, mean, outside, angles}
 use Rattle.state.specs.Kepler.{kepler}
 use Rattle.state.specs.Periodics.{longPeriod, latus, negativeLatus, plane, shortPeriod, decayed}
 use Rattle.state.specs.Orientation.{state}
-use Rattle.state.specs.Sgp4.{given, periodics, unperturbed}
-
--- both answers, where there are any, are those of each time by itself
-abbrev pub Same : Pair → Answer → Answer → Type 0
-Same (Both a b) x y = (a ≡ x) × (b ≡ y)
-Same Apart x y = Unit {0}
-
--- what is ready for both times, where it is, leads to the answer of each by itself
-abbrev pub Readied : ReadyPair → Answer → Answer → Type 0
-Readied (ready.Both a b) x y = (periodics (a .p) (a .m) (a .k) ≡ x) × (periodics (b .p) (b .m) (b .k) ≡ y)
-Readied ready.Apart x y = Unit {0}
+use Rattle.state.specs.Sgp4.{given, unperturbed}
 
 -- refusal 14 for neither, then orientation, position and velocity
 unfoldable pub placedTwo : Short → ℕ → Short → ℕ → Pair
