@@ -10,7 +10,6 @@ mod limits;
 mod reader;
 
 pub use limits::legal;
-pub use limits::magnitude;
 pub use reader::checksum;
 pub use reader::read;
 

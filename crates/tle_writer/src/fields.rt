@@ -6,10 +6,10 @@ ghost use Prim.Native.Nat.{_+_, _^_, _≤_};
 ghost use lib.ListN.{length};
 ghost use Rattle.tle_writer.specs.Field.{place, lead, right, pointed, dayPlaces, sign, fraction, exponentSign, scaled, letter, designator};
 ghost use Rattle.tle_writer.specs.Over.{Put};
+use integers::magnitude;
 use tle::Class;
 use tle::Designator;
 use tle::Scaled;
-use tle::magnitude;
 
 // The byte of a number's last place; z stands for a leading zero.
 fn place_of(z: u8, n: u64) -> u8
