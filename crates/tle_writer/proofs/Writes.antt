@@ -8,7 +8,7 @@ use borrow.Author.Tests.{le-leb, lt-leb}
 use denote.Ref.{RefT, now, at-last}
 use lib.ListN.{length, take, drop, drop-of-length-le}
 use lib.Seq.{drop-drop, take-at}
-use Rattle.tle.specs.Layout.{bytes}
+use Rattle.text.specs.Output.{bytes}
 use Rattle.tle.specs.Number.{sum}
 use Rattle.tle.specs.Legal.{legal}
 use Rattle.tle.specs.declared.Record.{Record}
@@ -18,6 +18,7 @@ use Rattle.tle_writer.specs.Field.{lead, digits}
 use Rattle.tle_writer.specs.Lines.{join, bodyOf, closedOf, lineOf}
 use Rattle.tle_writer.specs.Over.{over}
 use Rattle.tle_writer.specs.Write.{numberOf, writingOf, after, writtenOver, Handed}
+use Rattle.tle_writer.specs.Claims.{LinesLong}
 use Rattle.tle_writer.specs.declared.Writing.{Writing}
 use Rattle.tle_writer.specs.declared.Writing.the-variants.{Written, Illegal, Short}
 use Rattle.tle_writer.proofs.Bodies.{places}
@@ -44,7 +45,7 @@ pub written : (r : Record) (which : Line) (out : List ℕ) → legal r ≡ true 
 unfolding writingOf writtenOver
 written r which out e h = (rw (e, le-leb 69 (length out) h), rw (e, le-leb 69 (length out) h))
 
-pub length-line : (which : Line) (r : Record) → length (lineOf which r) ≡ 69
+pub length-line : LinesLong
 unfolding lineOf closedOf bodyOf join lead
 length-line One r = rw (places (r .designator))
 length-line Two r = refl
