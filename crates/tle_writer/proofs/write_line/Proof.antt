@@ -47,12 +47,14 @@ returns-3 c =
     let n = c .before .before .before in
     let f = n .before .before .before in
     let a = f .before .before .before .args in
-    let z = written n (c .before .before .if1 .left) in
-    (rw z (record {
-      bytes = front (a .r) (a .which) (now (a .out)) _ (f .fill-line .ensures .1) z;
-      begins = refl;
-      whole = λ q. absurd (c .before .if2 .left q);
-    }), told n)
+    let z = written n (c .before .before .if1 .left) in (
+      rw z (record {
+        bytes = front (a .r) (a .which) (now (a .out)) _ (f .fill-line .ensures .1) z;
+        begins = refl;
+        whole = λ q. absurd (c .before .if2 .left q);
+      }),
+      told n,
+    )
 
 pub write-line-spec : {M : Type 1} → statement M
 write-line-spec =
