@@ -28,25 +28,26 @@ fn instant_cases() {
 }
 
 /// A script that writes what a program is run on and what it must print, held
-/// to what is stored.
+/// to what is stored in the program's crate.
 fn written(script: &str, program: &str) {
-    let folder = std::env::temp_dir().join(format!("{program}-{}", std::process::id()));
+    let name = program.replace('/', "-");
+    let folder = std::env::temp_dir().join(format!("{name}-{}", std::process::id()));
     fs::create_dir_all(&folder).unwrap();
     let (input, expected) = (folder.join("stdin"), folder.join("stdout"));
     output(Command::new("python3").arg(root().join(script)).arg("--write").arg(&input).arg(&expected));
-    assert!(fs::read(input).unwrap() == stored(&format!("crates/{program}/stdin")));
-    assert!(fs::read(expected).unwrap() == stored(&format!("crates/{program}/stdout")));
+    assert!(fs::read(input).unwrap() == stored(&format!("{program}/stdin")));
+    assert!(fs::read(expected).unwrap() == stored(&format!("{program}/stdout")));
     fs::remove_dir_all(folder).unwrap();
 }
 
 #[test]
 fn read_pairs() {
-    written("tests/tle_pairs.py", "read_pairs");
+    written("tests/tle_pairs.py", "crates/read_pairs");
 }
 
 #[test]
 fn print_cases() {
-    written("tests/print_cases.py", "print_cases");
+    written("tests/print_cases.py", "crates/print_cases");
 }
 
 #[test]
