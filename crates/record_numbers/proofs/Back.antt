@@ -16,7 +16,7 @@ use Rattle.tle.specs.declared.Class.the-variants.{Unclassified, Classified, Sec
 use Rattle.tle.specs.declared.Designator.{Designator}
 use Rattle.tle.specs.declared.Designator.the-variants.{Blank, Piece}
 use Rattle.tle.specs.declared.Record.{Record}
-use Rattle.tle_writer.specs.Field.{letter}
+use Rattle.tle.specs.Read.{letter}
 use Rattle.tle_writer.proofs.Facts.{Facts, both, facts, day-below}
 use Rattle.record_numbers.specs.Numbers.{placesOf, numbersOf, whole, byte, designatorFrom, designatorAt, at, recordAt, isClass, givenOf, storeRefusal, storedOver}
 use Rattle.record_numbers.specs.Back.{StoredIsGiven, GivenIsStored}

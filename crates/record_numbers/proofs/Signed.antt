@@ -5,7 +5,8 @@ use Prim.Native.Nat.{ℕ, suc, _<_, _^_}
 use native.Mathlib.Omega.{arith}
 use borrow.Author.Tests.{ltb-true}
 use lib.IntN.{ℤ, pos, negsuc, natAbs}
-use lib.Signed.{ltZ}
+use lib.Dec.{T}
+use lib.Signed.{ltZ, nonNeg}
 use mir.Syntax.{w64}
 use mir.Val.{SFits, ofZ, toZ}
 use mir.ValLaws.{toZ-ofZ}
@@ -21,6 +22,10 @@ pub above : (z : ℤ) → ltZ z (pos 0) ≡ false → natAbs z ≡ whole z
 unfolding whole
 above (pos n) h = refl
 above (negsuc n) h = let x : _≡_ {A = ℕ} 0 1 = cc in absurd (omega arith)
+
+pub nonnegative : (z : ℤ) → ltZ z (pos 0) ≡ false → T (nonNeg z)
+nonnegative (pos n) h = tt
+nonnegative (negsuc n) h = let x : _≡_ {A = ℕ} 0 1 = cc in absurd (omega arith)
 
 fits : (z : ℤ) → natAbs z < 2 ^ 63 → SFits w64 z
 fits (pos n) h = sfits-of (omega arith)

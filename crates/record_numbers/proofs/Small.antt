@@ -14,7 +14,7 @@ use Rattle.tle.specs.declared.Designator.{Designator}
 use Rattle.tle.specs.declared.Designator.the-variants.{Blank, Piece}
 use Rattle.tle.specs.declared.Scaled.{Scaled}
 use Rattle.tle.specs.declared.Record.{Record}
-use Rattle.tle_writer.specs.Field.{letter}
+use Rattle.tle.specs.Read.{letter}
 use Rattle.tle_writer.proofs.Facts.{both, facts, day-below}
 use Rattle.record_numbers.specs.Numbers.{placesOf, Small}
 

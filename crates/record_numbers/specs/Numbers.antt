@@ -16,7 +16,7 @@ use Rattle.tle.specs.declared.Designator.{Designator}
 use Rattle.tle.specs.declared.Designator.the-variants as designator
 use Rattle.tle.specs.declared.Scaled.{Scaled}
 use Rattle.tle.specs.declared.Record.{Record}
-use Rattle.tle_writer.specs.Field.{letter}
+use Rattle.tle.specs.Read.{letter}
 use Rattle.record_numbers.specs.declared.Places.{Places}
 use Rattle.record_numbers.specs.declared.Given.{Given}
 use Rattle.record_numbers.specs.declared.Given.the-variants.{Fields, NoClass, TooShort}

@@ -4,8 +4,7 @@ ghost use mathlib.Core.List.{_++_};
 ghost use Prim.Native.Nat.{_+_, _<_, _≤_, _^_};
 ghost use lib.IntN.{pos};
 ghost use lib.ListN.{length, drop};
-ghost use Rattle.tle.specs.Read.{classOf};
-ghost use Rattle.tle_writer.specs.Field.{letter};
+ghost use Rattle.tle.specs.Read.{classOf, letter};
 ghost use Rattle.record_numbers.specs.Numbers as N;
 use tle::Class;
 use tle::Designator;
@@ -52,11 +51,7 @@ fn plus(n: u64) -> i64
 fn letter_of(class: Class) -> u64
     ensures { λ r. ⌜ r ≡ letter class ⌝ }
 {
-    match class {
-        Class::Unclassified => 85,
-        Class::Classified => 67,
-        Class::Secret => 83,
-    }
+    class.letter() as u64
 }
 
 fn places_of(d: Designator) -> Places
