@@ -5,7 +5,9 @@ use crate::deep_space::ahead_by;
 use crate::deep_space::deep_space;
 use crate::elements::elements_of;
 use elementary::is_finite;
+use instant::Days;
 use instant::Instant;
+use instant::Radians;
 use instant::Strides;
 use instant::epoch_days;
 use instant::epoch_instant;
@@ -68,8 +70,8 @@ impl Refusal {
     }
 }
 
-fn model_of(el: Elements, i: Initl, days: f64, gsto: f64) -> Model
-    ensures { λ r. ⌜ r ≡ O.modelOf el i days gsto ⌝ }
+fn model_of(el: Elements, i: Initl, days: Days, gsto: Radians) -> Model
+    ensures { λ r. ⌜ r ≡ O.modelOf el i (days .0) (gsto .0) ⌝ }
 {
     let deep = is_deep_space(i);
     let a = ahead_by(deep, days, el, i.no);
@@ -131,16 +133,16 @@ fn finite_method(method: Method) -> bool
     }
 }
 
-fn finite_record(m: Model, gsto: f64) -> bool
-    ensures { λ r. ⌜ r ≡ O.finiteRecord m gsto ⌝ }
+fn finite_record(m: Model, gsto: Radians) -> bool
+    ensures { λ r. ⌜ r ≡ O.finiteRecord m (gsto .0) ⌝ }
 {
     let near = m.near;
     let method = m.method;
-    finite_near(near) & finite_method(method) & is_finite(gsto)
+    finite_near(near) & finite_method(method) & is_finite(gsto.0)
 }
 
-fn checked(m: Model, gsto: f64) -> Opening
-    ensures { λ r. ⌜ r ≡ O.checked m gsto ⌝ }
+fn checked(m: Model, gsto: Radians) -> Opening
+    ensures { λ r. ⌜ r ≡ O.checked m (gsto .0) ⌝ }
 {
     if finite_record(m, gsto) {
         return Opening::Opened(newly(m));
@@ -148,8 +150,8 @@ fn checked(m: Model, gsto: f64) -> Opening
     Opening::Refused(Refusal::NotFinite)
 }
 
-fn above(el: Elements, i: Initl, days: f64, gsto: f64) -> Opening
-    ensures { λ r. ⌜ r ≡ O.above el i days gsto ⌝ }
+fn above(el: Elements, i: Initl, days: Days, gsto: Radians) -> Opening
+    ensures { λ r. ⌜ r ≡ O.above el i (days .0) (gsto .0) ⌝ }
 {
     if i.rp < 1.0 {
         return Opening::Refused(Refusal::Perigee);
@@ -163,7 +165,7 @@ fn started(el: Elements, t: Instant) -> Opening
     let i = initl(el.ecco, el.inclo, el.no);
     let days = epoch_days(t);
     let gsto = greenwich(t);
-    above(el, i, days.0, gsto.0)
+    above(el, i, days, gsto)
 }
 
 fn dated(r: Record, epoch: instant::Epoch) -> Opening
