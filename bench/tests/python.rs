@@ -108,11 +108,15 @@ fn instants() {
         let words: Vec<&str> = line.split(' ').collect();
         let n: Vec<i64> = words[1..].iter().map(|w| u64::from_str_radix(w, 16).unwrap() as i64).collect();
         let bits = |x: f64| x.to_bits() as i64;
+        let inside = |instant: i64| (0..instant::END).contains(&instant);
+        // A number at an instant: refusal 6, with no number, outside the calendar.
+        let at = |number: fn(i64) -> f64| if inside(n[0]) { vec![0, bits(number(n[0]))] } else { vec![6, 0] };
         let results: Vec<i64> = match words[0] {
             "epoch" => match instant::from_epoch(n[0], n[1]) {
                 Some(instant) => vec![1, instant],
                 None => vec![0, 0],
             },
+            "split" if !inside(n[0]) => vec![0, 0, 0],
             "split" => {
                 let (year, day, micros) = instant::split(n[0]);
                 vec![year, day, micros]
@@ -122,8 +126,11 @@ fn instants() {
                 Err(refusal) => vec![refusal as i64, 0],
             },
             "minutes" => vec![bits(instant::minutes(n[0]))],
-            "jd" => vec![bits(instant::epoch_days(n[0]) + 2433281.5)],
-            "gst" => vec![bits(instant::gstime(instant::epoch_days(n[0]) + 2433281.5))],
+            "since" if inside(n[0]) && inside(n[1]) => vec![0, n[0] - n[1]],
+            "since" => vec![6, 0],
+            "days" => at(instant::epoch_days),
+            "jd" => at(|t| instant::epoch_days(t) + 2433281.5),
+            "gst" => at(|t| instant::gstime(instant::epoch_days(t) + 2433281.5)),
             other => panic!("no operation {other}"),
         };
         assert_eq!(results, n[n.len() - results.len()..], "{line}");
