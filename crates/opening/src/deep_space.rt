@@ -28,7 +28,8 @@ pub struct Ahead {
     pub lunar: Lunar,
 }
 
-fn ahead_of(epoch: Days, el: Elements, no: f64) -> Ahead
+// `no` is the recovered mean motion.
+pub fn ahead_of(epoch: Days, el: Elements, no: f64) -> Ahead
     ensures { λ r. ⌜ r ≡ W.aheadOf (epoch .0) el no ⌝ }
 {
     let aonv = aonv_of(no);
@@ -39,40 +40,6 @@ fn ahead_of(epoch: Days, el: Elements, no: f64) -> Ahead
         angles,
         lunar,
     }
-}
-
-fn not_ahead() -> Ahead
-    ensures { λ r. ⌜ r ≡ W.notAhead ⌝ }
-{
-    Ahead {
-        aonv: 0.0,
-        angles: Angles {
-            snodm: 0.0,
-            cnodm: 0.0,
-            sinomm: 0.0,
-            cosomm: 0.0,
-            sinim: 0.0,
-            cosim: 0.0,
-        },
-        lunar: Lunar {
-            zcosgl: 0.0,
-            zsingl: 0.0,
-            zcosil: 0.0,
-            zsinil: 0.0,
-            zcoshl: 0.0,
-            zsinhl: 0.0,
-        },
-    }
-}
-
-// `no` is the recovered mean motion.
-pub fn ahead_by(deep: bool, epoch: Days, el: Elements, no: f64) -> Ahead
-    ensures { λ r. ⌜ r ≡ W.aheadBy deep (epoch .0) el no ⌝ }
-{
-    if deep {
-        return ahead_of(epoch, el, no);
-    }
-    not_ahead()
 }
 
 fn orbit(c: Common, ecco: f64, eccsq: f64) -> Orbit
