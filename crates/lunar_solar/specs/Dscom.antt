@@ -103,7 +103,7 @@ moonOf o l =
       cc = dec 47968065 14;
     }
 
--- one turn of the loop: 2042-2065 (the braces at 2047, 2048 are a page break)
+-- one turn of the loop: 2042-2067 (the braces at 2047, 2048 are a page break)
 unfoldable pub axesOf : Body → Angles → Axes
 axesOf b o =
     let a1 = b .zcosg ⊗ b .zcosh ⊕ b .zsing ⊗ b .zcosi ⊗ b .zsinh in
@@ -141,7 +141,7 @@ axesOf b o =
       x8 = x8;
     }
 
--- 2067-2084
+-- 2069-2085
 unfoldable pub zOf : Axes → Shape → Z
 zOf x h =
     let z31 = dec 12 0 ⊗ x .x1 ⊗ x .x1 ⊖ dec 3 0 ⊗ x .x3 ⊗ x .x3 in
@@ -171,7 +171,7 @@ zOf x h =
       z33 = z33;
     }
 
--- 2038, 2085-2091
+-- 2038, 2086-2092
 unfoldable pub sOf : Axes → Shape → Float → S
 sOf x h cc =
     let xnoi = dec 1 0 ⊘ h .nm in

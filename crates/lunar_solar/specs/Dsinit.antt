@@ -32,7 +32,7 @@ ratesOf p emsq zn zl =
 unfoldable pub guardedOf : Float → Float → Float
 guardedOf inclm sh = cond (lt inclm (dec 52359877 9) || lt (pi ⊖ dec 52359877 9) inclm) (dec 0 0) sh
 
--- 2322-2331 and 2335-2346: the Sun's rates s and the Moon's m together; `inclined` is sinim != 0.0
+-- 2322-2324, 2327-2329 and 2335-2346: the Sun's rates s and the Moon's m together; `inclined` is sinim != 0.0
 unfoldable pub joinedBy : Bool → BodyRates → BodyRates → Float → Float → Angles → SecularRates
 joinedBy inclined s m shs shll o =
     let shs = cond inclined (shs ⊘ o .sinim) shs in

@@ -1,6 +1,9 @@
 // 002's dscom: what the secular rates and the periodic terms of the Sun and the Moon rest on.
 ghost use mathlib.Core.Path.{_≡_};
 ghost use Rattle.lunar_solar.specs.Dscom as D;
+use instant::Days;
+use instant::Minutes;
+use instant::Radians;
 use satellite::LunarSolar;
 use satellite::Periodics;
 
@@ -101,12 +104,12 @@ pub struct Common {
     pub periodics: LunarSolar,
 }
 
-pub fn angles_of(argpp: f64, inclp: f64, nodep: f64) -> Angles
-    ensures { λ r. ⌜ r ≡ D.anglesOf argpp inclp nodep ⌝ }
+pub fn angles_of(argpp: Radians, inclp: Radians, nodep: Radians) -> Angles
+    ensures { λ r. ⌜ r ≡ D.anglesOf (argpp .0) (inclp .0) (nodep .0) ⌝ }
 {
-    let node = elementary::sin_cos(nodep);
-    let argp = elementary::sin_cos(argpp);
-    let incl = elementary::sin_cos(inclp);
+    let node = elementary::sin_cos(nodep.0);
+    let argp = elementary::sin_cos(argpp.0);
+    let incl = elementary::sin_cos(inclp.0);
     Angles {
         snodm: node.sin,
         cnodm: node.cos,
@@ -134,16 +137,16 @@ fn shape_of(ep: f64, np: f64) -> Shape
     }
 }
 
-fn day_of(epoch: f64, tc: f64) -> f64
-    ensures { λ r. ⌜ r ≡ D.dayOf epoch tc ⌝ }
+fn day_of(epoch: Days, tc: Minutes) -> Days
+    ensures { λ r. ⌜ r .0 ≡ D.dayOf (epoch .0) (tc .0) ⌝ }
 {
-    epoch + 18261.5 + tc / 1440.0
+    Days(epoch.0 + 18261.5 + tc.0 / 1440.0)
 }
 
-fn gam_of(day: f64) -> f64
-    ensures { λ r. ⌜ r ≡ D.gamOf day ⌝ }
+fn gam_of(day: Days) -> f64
+    ensures { λ r. ⌜ r ≡ D.gamOf (day .0) ⌝ }
 {
-    5.8351514 + 0.0019443680 * day
+    5.8351514 + 0.0019443680 * day.0
 }
 
 fn sun_of(o: Angles) -> Body
@@ -160,12 +163,12 @@ fn sun_of(o: Angles) -> Body
     }
 }
 
-pub fn lunar_of(epoch: f64, tc: f64) -> Lunar
-    ensures { λ r. ⌜ r ≡ D.lunarOf epoch tc ⌝ }
+pub fn lunar_of(epoch: Days, tc: Minutes) -> Lunar
+    ensures { λ r. ⌜ r ≡ D.lunarOf (epoch .0) (tc .0) ⌝ }
 {
     let day = day_of(epoch, tc);
     let gam = gam_of(day);
-    let xnodce = elementary::rem_turn(4.5236020 - 9.2422029e-4 * day);
+    let xnodce = elementary::rem_turn(4.5236020 - 9.2422029e-4 * day.0);
     let tem = elementary::sin_cos(xnodce);
     let stem = tem.sin;
     let ctem = tem.cos;
@@ -325,20 +328,20 @@ fn periodics_of(p: Pass, emsq: f64, ze: f64) -> Periodics
     }
 }
 
-fn zmol_of(day: f64, gam: f64) -> f64
-    ensures { λ r. ⌜ r ≡ D.zmolOf day gam ⌝ }
+fn zmol_of(day: Days, gam: f64) -> f64
+    ensures { λ r. ⌜ r ≡ D.zmolOf (day .0) gam ⌝ }
 {
-    elementary::rem_turn(4.7199672 + 0.22997150 * day - gam)
+    elementary::rem_turn(4.7199672 + 0.22997150 * day.0 - gam)
 }
 
-fn zmos_of(day: f64) -> f64
-    ensures { λ r. ⌜ r ≡ D.zmosOf day ⌝ }
+fn zmos_of(day: Days) -> f64
+    ensures { λ r. ⌜ r ≡ D.zmosOf (day .0) ⌝ }
 {
-    elementary::rem_turn(6.2565837 + 0.017201977 * day)
+    elementary::rem_turn(6.2565837 + 0.017201977 * day.0)
 }
 
-fn both_of(sun: Pass, moon: Pass, emsq: f64, day: f64, gam: f64) -> LunarSolar
-    ensures { λ r. ⌜ r ≡ D.bothOf sun moon emsq day gam ⌝ }
+fn both_of(sun: Pass, moon: Pass, emsq: f64, day: Days, gam: f64) -> LunarSolar
+    ensures { λ r. ⌜ r ≡ D.bothOf sun moon emsq (day .0) gam ⌝ }
 {
     LunarSolar {
         sun: periodics_of(sun, emsq, 0.01675),
@@ -350,8 +353,8 @@ fn both_of(sun: Pass, moon: Pass, emsq: f64, day: f64, gam: f64) -> LunarSolar
 
 // The solar pass, then the lunar pass; `epoch` counts days as 002's sgp4init does. The angles come
 // first, from angles_of and lunar_of: nothing else is needed for them, so that they can begin early.
-pub fn dscom(angles: Angles, lunar: Lunar, epoch: f64, ep: f64, tc: f64, np: f64) -> Common
-    ensures { λ r. ⌜ r ≡ D.dscomFrom angles lunar epoch ep tc np ⌝ }
+pub fn dscom(angles: Angles, lunar: Lunar, epoch: Days, ep: f64, tc: Minutes, np: f64) -> Common
+    ensures { λ r. ⌜ r ≡ D.dscomFrom angles lunar (epoch .0) ep (tc .0) np ⌝ }
 {
     let shape = shape_of(ep, np);
     let day = day_of(epoch, tc);

@@ -4,6 +4,7 @@ ghost use Rattle.lunar_solar.specs.Dsinit as D;
 use crate::dscom::Angles;
 use crate::dscom::Common;
 use crate::dscom::Pass;
+use instant::Radians;
 use satellite::SecularRates;
 
 const PI: f64 = 3.141592653589793;
@@ -70,8 +71,8 @@ fn joined(s: BodyRates, m: BodyRates, shs: f64, shll: f64, o: Angles) -> Secular
 }
 
 // `inclm` is the inclination at the epoch.
-pub fn secular_rates(c: Common, inclm: f64) -> SecularRates
-    ensures { λ r. ⌜ r ≡ D.secularOf c inclm ⌝ }
+pub fn secular_rates(c: Common, inclm: Radians) -> SecularRates
+    ensures { λ r. ⌜ r ≡ D.secularOf c (inclm .0) ⌝ }
 {
     let sun = c.sun;
     let moon = c.moon;
@@ -79,7 +80,7 @@ pub fn secular_rates(c: Common, inclm: f64) -> SecularRates
     let emsq = c.shape.emsq;
     let s = rates_of(sun, emsq, 1.19459e-5, -1.19459e-5);
     let m = rates_of(moon, emsq, 1.5835218e-4, 1.5835218e-4);
-    let shs = guarded(inclm, s.h);
-    let shll = guarded(inclm, m.h);
+    let shs = guarded(inclm.0, s.h);
+    let shll = guarded(inclm.0, m.h);
     joined(s, m, shs, shll, o)
 }

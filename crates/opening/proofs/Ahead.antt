@@ -16,7 +16,7 @@ use Rattle.lunar_solar.specs.Dsinit.{secularOf}
 use Rattle.resonance.specs.Dsinit.{aonvOf, dsinitFrom, dsinitOf}
 use Rattle.opening.specs.declared.deep_space.Ahead.{Ahead}
 use Rattle.opening.specs.DeepSpace.{tc, common, setUp, orbit, atEpoch, deepSpaceOf}
-use Rattle.opening.specs.Ahead.{aheadOf, aheadBy, deepSpaceFrom}
+use Rattle.opening.specs.Ahead.{aheadOf, deepSpaceFrom}
 use Rattle.opening.specs.Opening.{modelOf}
 
 -- sgp4init keeps the elements, with the mean motion recovered
@@ -51,16 +51,16 @@ deep-ahead el i deep epoch gsto eccsq =
     ap (λ (e : Elements). deepSpaceFrom (aheadOf epoch e (e .no)) epoch gsto n eccsq) (sym (elements-of el i deep)) ∙ own epoch gsto n eccsq
 
 pub deep-model : (el : Elements) (i : Initl) (days gsto : Float) (b : Bool) (a : Ahead) (n : NearEarth) (d : DeepSpace)
-    → b ≡ deepSpace i → b ≡ true → a ≡ aheadBy b days el (i .no) → n ≡ nearEarth el i b → d ≡ deepSpaceFrom a days gsto n (i .eccsq)
+    → b ≡ deepSpace i → b ≡ true → a ≡ aheadOf days el (i .no) → n ≡ nearEarth el i true → d ≡ deepSpaceFrom a days gsto n (i .eccsq)
     → _≡_ {A = Model} (record { near = n; method = method.DeepSpace d }) (modelOf el i days gsto)
-unfolding modelOf aheadBy
+unfolding modelOf
 deep-model el i days gsto b a n d hb ht ha hn hd =
     let e : deepSpace i ≡ true = sym hb ∙ ht in
-    rw (hd, ha, hn, ht, e) (ap (λ (z : DeepSpace). record { near = nearEarth el i true; method = method.DeepSpace z }) (deep-ahead el i true days gsto (i .eccsq)))
+    rw (hd, ha, hn, e) (ap (λ (z : DeepSpace). record { near = nearEarth el i true; method = method.DeepSpace z }) (deep-ahead el i true days gsto (i .eccsq)))
 
-pub near-model : (el : Elements) (i : Initl) (days gsto : Float) (b : Bool) (n : NearEarth) → b ≡ deepSpace i → b ≡ false → n ≡ nearEarth el i b
+pub near-model : (el : Elements) (i : Initl) (days gsto : Float) (b : Bool) (n : NearEarth) → b ≡ deepSpace i → b ≡ false → n ≡ nearEarth el i false
     → _≡_ {A = Model} (record { near = n; method = method.NearEarth }) (modelOf el i days gsto)
 unfolding modelOf
 near-model el i days gsto b n hb hf hn =
     let e : deepSpace i ≡ false = sym hb ∙ hf in
-    rw (hn, hf, e)
+    rw (hn, e)

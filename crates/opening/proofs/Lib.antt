@@ -3,5 +3,6 @@ mod Tests
 mod FloatLaws
 mod Guard
 mod Ahead
+mod Inside
 pub mod Made
 pub mod AllFinite

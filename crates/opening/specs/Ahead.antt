@@ -1,7 +1,5 @@
 -- The deep-space initialization with its longest steps begun ahead, which serves speed alone. proofs/Ahead: it comes to the same. Definitions only.
-use mathlib.Core.Bool.{Bool, cond}
 use lib.Ieee.{Float}
-use Rattle.elementary.specs.Notation.{dec}
 use Rattle.satellite.specs.declared.Elements.{Elements}
 use Rattle.satellite.specs.declared.NearEarth.{NearEarth}
 use Rattle.satellite.specs.declared.DeepSpace.{DeepSpace}
@@ -14,18 +12,6 @@ use Rattle.opening.specs.DeepSpace.{tc, setUp, orbit, atEpoch}
 -- of the epoch in days, the elements and the recovered mean motion
 unfoldable pub aheadOf : Float → Elements → Float → Ahead
 aheadOf epoch el n = record { aonv = aonvOf n; angles = anglesOf (el .argpo) (el .inclo) (el .nodeo); lunar = lunarOf epoch tc }
-
--- near Earth needs none of it
-unfoldable pub notAhead : Ahead
-notAhead =
-    record {
-      aonv = dec 0 0;
-      angles = record { snodm = dec 0 0; cnodm = dec 0 0; sinomm = dec 0 0; cosomm = dec 0 0; sinim = dec 0 0; cosim = dec 0 0 };
-      lunar = record { zcosgl = dec 0 0; zsingl = dec 0 0; zcosil = dec 0 0; zsinil = dec 0 0; zcoshl = dec 0 0; zsinhl = dec 0 0 };
-    }
-
-unfoldable pub aheadBy : Bool → Float → Elements → Float → Ahead
-aheadBy deep epoch el n = cond deep (aheadOf epoch el n) notAhead
 
 -- deepSpaceOf of what is ahead
 unfoldable pub deepSpaceFrom : Ahead → Float → Float → NearEarth → Float → DeepSpace

@@ -27,7 +27,7 @@ unfoldable pub unchanged : NearEarth → Perturbed
 unchanged n =
     record { ep = n .elements .ecco; inclp = n .elements .inclo; nodep = n .elements .nodeo; argpp = n .elements .argpo; mp = n .elements .mo }
 
--- 3157-3169: dpper with init 'y', at satrec.t, which is 0.0
+-- 3157-3168: dpper with init 'y', at satrec.t, which is 0.0 (3034)
 unfoldable pub setUp : Common → NearEarth → Perturbed
 setUp c n = dpperOf true (c .periodics) (record { 0 = dec 0 0 }) (unchanged n)
 

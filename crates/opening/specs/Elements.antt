@@ -1,4 +1,4 @@
--- A record's fields as the numbers that sgp4init is handed: document 01, "Numbers the model rests on", and 002's twoline2rv (lines 1355-1375).
+-- A record's fields as the numbers that sgp4init is handed: document 01, "Numbers the model rests on", and 002's twoline2rv (lines 1355-1374).
 -- Definitions only.
 use lib.Ieee.{Float}
 use Rattle.elementary.specs.Notation.{_⊗_, _⊘_, dec, pi}

@@ -2,6 +2,9 @@
 ghost use mathlib.Core.Path.{_≡_};
 ghost use Rattle.opening.specs.DeepSpace as D;
 ghost use Rattle.opening.specs.Ahead as W;
+use instant::Days;
+use instant::Minutes;
+use instant::Radians;
 use lunar_solar::dscom::Angles;
 use lunar_solar::dscom::Common;
 use lunar_solar::dscom::Lunar;
@@ -25,51 +28,18 @@ pub struct Ahead {
     pub lunar: Lunar,
 }
 
-fn ahead_of(epoch: f64, el: Elements, no: f64) -> Ahead
-    ensures { λ r. ⌜ r ≡ W.aheadOf epoch el no ⌝ }
+// `no` is the recovered mean motion.
+pub fn ahead_of(epoch: Days, el: Elements, no: f64) -> Ahead
+    ensures { λ r. ⌜ r ≡ W.aheadOf (epoch .0) el no ⌝ }
 {
     let aonv = aonv_of(no);
-    let lunar = lunar_of(epoch, 0.0);
-    let angles = angles_of(el.argpo, el.inclo, el.nodeo);
+    let lunar = lunar_of(epoch, Minutes(0.0));
+    let angles = angles_of(Radians(el.argpo), Radians(el.inclo), Radians(el.nodeo));
     Ahead {
         aonv,
         angles,
         lunar,
     }
-}
-
-fn not_ahead() -> Ahead
-    ensures { λ r. ⌜ r ≡ W.notAhead ⌝ }
-{
-    Ahead {
-        aonv: 0.0,
-        angles: Angles {
-            snodm: 0.0,
-            cnodm: 0.0,
-            sinomm: 0.0,
-            cosomm: 0.0,
-            sinim: 0.0,
-            cosim: 0.0,
-        },
-        lunar: Lunar {
-            zcosgl: 0.0,
-            zsingl: 0.0,
-            zcosil: 0.0,
-            zsinil: 0.0,
-            zcoshl: 0.0,
-            zsinhl: 0.0,
-        },
-    }
-}
-
-// `no` is the recovered mean motion.
-pub fn ahead_by(deep: bool, epoch: f64, el: Elements, no: f64) -> Ahead
-    ensures { λ r. ⌜ r ≡ W.aheadBy deep epoch el no ⌝ }
-{
-    if deep {
-        return ahead_of(epoch, el, no);
-    }
-    not_ahead()
 }
 
 fn orbit(c: Common, ecco: f64, eccsq: f64) -> Orbit
@@ -86,8 +56,8 @@ fn orbit(c: Common, ecco: f64, eccsq: f64) -> Orbit
     }
 }
 
-fn at_epoch(n: NearEarth, gsto: f64) -> Epoch
-    ensures { λ r. ⌜ r ≡ D.atEpoch n (D.unchanged n) gsto ⌝ }
+fn at_epoch(n: NearEarth, gsto: Radians) -> Epoch
+    ensures { λ r. ⌜ r ≡ D.atEpoch n (D.unchanged n) (gsto .0) ⌝ }
 {
     Epoch {
         mo: n.elements.mo,
@@ -98,24 +68,25 @@ fn at_epoch(n: NearEarth, gsto: f64) -> Epoch
         nodedot: n.rates.nodedot,
         argpdot: n.rates.argpdot,
         xpidot: n.rates.argpdot + n.rates.nodedot,
-        gsto,
+        gsto: gsto.0,
     }
 }
 
 // Of the epoch in days, the Greenwich angle, the near-Earth part and eccsq.
-pub fn deep_space(a: Ahead, epoch: f64, gsto: f64, n: NearEarth, eccsq: f64) -> DeepSpace
-    ensures { λ r. ⌜ r ≡ W.deepSpaceFrom a epoch gsto n eccsq ⌝ }
+pub fn deep_space(a: Ahead, epoch: Days, gsto: Radians, n: NearEarth, eccsq: f64) -> DeepSpace
+    ensures { λ r. ⌜ r ≡ W.deepSpaceFrom a (epoch .0) (gsto .0) n eccsq ⌝ }
 {
     let angles = a.angles;
     let lunar = a.lunar;
-    let c = dscom(angles, lunar, epoch, n.elements.ecco, 0.0, n.elements.no);
-    let rates = secular_rates(c, n.elements.inclo);
+    let tc = Minutes(0.0);
+    let c = dscom(angles, lunar, epoch, n.elements.ecco, tc, n.elements.no);
+    let rates = secular_rates(c, Radians(n.elements.inclo));
     let integrator = dsinit(
         orbit(c, n.elements.ecco, eccsq),
         a.aonv,
         at_epoch(n, gsto),
         rates,
-        0.0,
+        tc,
     );
     let periodics = c.periodics;
     DeepSpace {

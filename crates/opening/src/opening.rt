@@ -1,11 +1,18 @@
 // Opening a record, or two lines.
 ghost use mathlib.Core.Path.{_≡_};
+ghost use mathlib.Core.Bool.{true};
+ghost use Rattle.instant.specs.Calendar.{inCalendar, epochOf};
+ghost use Rattle.instant.specs.Greenwich.{epochDaysOf, greenwichOf};
 ghost use Rattle.opening.specs.Opening as O;
-use crate::deep_space::ahead_by;
+use crate::deep_space::ahead_of;
 use crate::deep_space::deep_space;
 use crate::elements::elements_of;
 use elementary::is_finite;
+use instant::Angle;
+use instant::DayCount;
+use instant::Days;
 use instant::Instant;
+use instant::Radians;
 use instant::Strides;
 use instant::epoch_days;
 use instant::epoch_instant;
@@ -68,19 +75,19 @@ impl Refusal {
     }
 }
 
-fn model_of(el: Elements, i: Initl, days: f64, gsto: f64) -> Model
-    ensures { λ r. ⌜ r ≡ O.modelOf el i days gsto ⌝ }
+fn model_of(el: Elements, i: Initl, days: Days, gsto: Radians) -> Model
+    ensures { λ r. ⌜ r ≡ O.modelOf el i (days .0) (gsto .0) ⌝ }
 {
-    let deep = is_deep_space(i);
-    let a = ahead_by(deep, days, el, i.no);
-    let near = near_earth(el, i, deep);
-    if deep {
+    if is_deep_space(i) {
+        let a = ahead_of(days, el, i.no);
+        let near = near_earth(el, i, true);
         let d = deep_space(a, days, gsto, near, i.eccsq);
         return Model {
             near,
             method: Method::DeepSpace(d),
         };
     }
+    let near = near_earth(el, i, false);
     Model {
         near,
         method: Method::NearEarth,
@@ -131,16 +138,16 @@ fn finite_method(method: Method) -> bool
     }
 }
 
-fn finite_record(m: Model, gsto: f64) -> bool
-    ensures { λ r. ⌜ r ≡ O.finiteRecord m gsto ⌝ }
+fn finite_record(m: Model, gsto: Radians) -> bool
+    ensures { λ r. ⌜ r ≡ O.finiteRecord m (gsto .0) ⌝ }
 {
     let near = m.near;
     let method = m.method;
-    finite_near(near) & finite_method(method) & is_finite(gsto)
+    finite_near(near) & finite_method(method) & is_finite(gsto.0)
 }
 
-fn checked(m: Model, gsto: f64) -> Opening
-    ensures { λ r. ⌜ r ≡ O.checked m gsto ⌝ }
+fn checked(m: Model, gsto: Radians) -> Opening
+    ensures { λ r. ⌜ r ≡ O.checked m (gsto .0) ⌝ }
 {
     if finite_record(m, gsto) {
         return Opening::Opened(newly(m));
@@ -148,8 +155,8 @@ fn checked(m: Model, gsto: f64) -> Opening
     Opening::Refused(Refusal::NotFinite)
 }
 
-fn above(el: Elements, i: Initl, days: f64, gsto: f64) -> Opening
-    ensures { λ r. ⌜ r ≡ O.above el i days gsto ⌝ }
+fn above(el: Elements, i: Initl, days: Days, gsto: Radians) -> Opening
+    ensures { λ r. ⌜ r ≡ O.above el i (days .0) (gsto .0) ⌝ }
 {
     if i.rp < 1.0 {
         return Opening::Refused(Refusal::Perigee);
@@ -157,16 +164,42 @@ fn above(el: Elements, i: Initl, days: f64, gsto: f64) -> Opening
     checked(model_of(el, i, days, gsto), gsto)
 }
 
+// The days of an instant that is in the calendar: no other comes here.
+fn days_of(t: Instant) -> Days
+    requires { ⌜ inCalendar (t .0) ≡ true ⌝ }
+    ensures { λ r. ⌜ r .0 ≡ epochDaysOf (t .0) ⌝ }
+{
+    let days = epoch_days(t);
+    match days {
+        DayCount::Is(x) => x,
+        DayCount::Outside => Days(0.0),
+    }
+}
+
+// The Greenwich angle at such an instant.
+fn gsto_of(t: Instant) -> Radians
+    requires { ⌜ inCalendar (t .0) ≡ true ⌝ }
+    ensures { λ r. ⌜ r .0 ≡ greenwichOf (t .0) ⌝ }
+{
+    let angle = greenwich(t);
+    match angle {
+        Angle::Is(x) => x,
+        Angle::Outside => Radians(0.0),
+    }
+}
+
 fn started(el: Elements, t: Instant) -> Opening
+    requires { ⌜ inCalendar (t .0) ≡ true ⌝ }
     ensures { λ r. ⌜ r ≡ O.started el (t .0) ⌝ }
 {
     let i = initl(el.ecco, el.inclo, el.no);
-    let days = epoch_days(t);
-    let gsto = greenwich(t);
-    above(el, i, days.0, gsto.0)
+    let days = days_of(t);
+    let gsto = gsto_of(t);
+    above(el, i, days, gsto)
 }
 
 fn dated(r: Record, epoch: instant::Epoch) -> Opening
+    requires { ⌜ epoch ≡ epochOf (r .year) (r .day) ⌝ }
     ensures { λ y. ⌜ y ≡ O.dated r epoch ⌝ }
 {
     match epoch {

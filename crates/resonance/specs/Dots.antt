@@ -48,7 +48,7 @@ oneDayDots d xli xni xfact =
       xnddt = xnddt;
     }
 
--- the ten arguments of 2709-2720, named by their coefficients
+-- 2707-2708 and the ten arguments of 2709-2720, named by their coefficients
 unfoldable pub phasesOf : Float → Float → Phases
 phasesOf xomi xli =
     let x2omi = xomi ⊕ xomi in
@@ -98,7 +98,7 @@ halfDaySums h w xldot =
       xnddt = xnddt;
     }
 
--- 2706-2721
+-- 2707-2721, of xomi
 unfoldable pub halfDayDots : HalfDay → Float → Float → Float → Float → Dots
 halfDayDots h xli xni xfact xomi = halfDaySums h (wavesOf (phasesOf xomi xli)) (xni ⊕ xfact)
 

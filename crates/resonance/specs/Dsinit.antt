@@ -19,7 +19,7 @@ use Rattle.resonance.specs.declared.dsinit.Low.{Low}
 use Rattle.resonance.specs.declared.dsinit.High.{High}
 use Rattle.resonance.specs.declared.dsinit.Inclined.{Inclined}
 
--- 2290-2299
+-- 2290-2298
 abbrev pub q22 : Float
 q22 = dec 17891679 13
 
@@ -219,7 +219,7 @@ oneDayStart e s theta =
       xfact = e .mdot ⊕ e .xpidot ⊖ rptim ⊕ s .dmdt ⊕ s .domdt ⊕ s .dnodt ⊖ e .no;
     }
 
--- without resonance they stay the zeros that sgp4init begins with (3010)
+-- without resonance they stay the zeros that sgp4init begins with (3007, 3010)
 unfoldable pub startOf : Resonance → Epoch → SecularRates → Float → Start
 startOf kinds.None e s theta = record { xlamo = dec 0 0; xfact = dec 0 0 }
 startOf (kinds.OneDay d) e s theta = oneDayStart e s theta

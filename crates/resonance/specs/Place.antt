@@ -27,7 +27,7 @@ sameSide Back Back = true
 abbrev pub number : Place → ℕ
 number p = p .strides .0
 
--- dsinit 2483-2484, dspace 2649-2650; without resonance they stay the zeros that sgp4init begins with
+-- dsinit 2483-2484, dspace 2649-2650; without resonance they stay the zeros that sgp4init begins with (3012)
 unfoldable pub atEpoch : Resonance → Float → Float
 atEpoch kinds.None x = dec 0 0
 atEpoch (kinds.OneDay d) x = x
@@ -63,7 +63,7 @@ atimeOf p = atimeAfter (p .side) (number p)
 unfoldable pub dotsAt : Integrator → Place → Dots
 dotsAt i p = dotsOf (i .resonance) (p .xli) (p .xni) (i .xfact) (i .argpo ⊕ i .argpdot ⊗ atimeOf p)
 
--- 2727 and 2728; step2 is 259200.0
+-- 2727 and 2728; step2 is 259200.0 (2610)
 unfoldable pub nextXli : Dots → Float → Float → Float
 nextXli d xli delt = xli ⊕ d .xldot ⊗ delt ⊕ d .xndt ⊗ dec 259200 0
 

@@ -1,6 +1,8 @@
 // The resonance part of 002's dsinit: the kind, its coefficients, and what the integration starts with.
 ghost use mathlib.Core.Path.{_≡_};
 ghost use Rattle.resonance.specs.Dsinit as D;
+use instant::Minutes;
+use instant::Radians;
 use satellite::HalfDay;
 use satellite::Integrator;
 use satellite::OneDay;
@@ -254,10 +256,10 @@ fn kind_of(o: Orbit, aonv: f64) -> Resonance
 }
 
 // Also dspace's theta, at its time.
-pub(crate) fn theta_of(gsto: f64, tc: f64) -> f64
-    ensures { λ r. ⌜ r ≡ D.thetaOf gsto tc ⌝ }
+pub(crate) fn theta_of(gsto: Radians, tc: Minutes) -> Radians
+    ensures { λ r. ⌜ r .0 ≡ D.thetaOf (gsto .0) (tc .0) ⌝ }
 {
-    elementary::rem_turn(gsto + tc * RPTIM)
+    Radians(elementary::rem_turn(gsto.0 + tc.0 * RPTIM))
 }
 
 fn half_day_start(e: Epoch, s: SecularRates, theta: f64) -> Start
@@ -299,12 +301,12 @@ pub fn aonv_of(nm: f64) -> f64
 }
 
 // `aonv` is aonv_of the orbit's mean motion; `tc` is 0 at set-up.
-pub fn dsinit(o: Orbit, aonv: f64, e: Epoch, s: SecularRates, tc: f64) -> Integrator
-    ensures { λ r. ⌜ r ≡ D.dsinitFrom o aonv e s tc ⌝ }
+pub fn dsinit(o: Orbit, aonv: f64, e: Epoch, s: SecularRates, tc: Minutes) -> Integrator
+    ensures { λ r. ⌜ r ≡ D.dsinitFrom o aonv e s (tc .0) ⌝ }
 {
     let resonance = kind_of(o, aonv);
-    let theta = theta_of(e.gsto, tc);
-    let start = start_of(resonance, e, s, theta);
+    let theta = theta_of(Radians(e.gsto), tc);
+    let start = start_of(resonance, e, s, theta.0);
     Integrator {
         resonance,
         xlamo: start.xlamo,

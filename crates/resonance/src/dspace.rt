@@ -6,6 +6,7 @@ use crate::dots::Dots;
 use crate::dsinit::theta_of;
 use crate::place::Place;
 use instant::Minutes;
+use instant::Radians;
 use satellite::Integrator;
 use satellite::Resonance;
 use satellite::SecularRates;
@@ -74,11 +75,11 @@ pub fn dspace(p: Place, i: Integrator, s: SecularRates, m: Mean, t: Minutes) -> 
     ensures { λ r. ⌜ r ≡ D.dspaceOf p i s m t ⌝ }
 {
     let kind = i.resonance;
-    let theta = theta_of(i.gsto, t.0);
+    let theta = theta_of(Radians(i.gsto), t);
     let d = p.dots(i);
     let ft = t.0 - p.atime();
     let nm = nm_of(d, p.xni, ft);
     let xl = xl_of(d, p.xli, ft);
     let updated = secular_update(s, m, t.0);
-    resonant_of(kind, i, nm, xl, theta, updated)
+    resonant_of(kind, i, nm, xl, theta.0, updated)
 }
