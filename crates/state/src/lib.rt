@@ -4,6 +4,7 @@
 pub mod answer;
 pub mod kepler;
 pub mod orientation;
+pub mod pairs;
 pub mod parts;
 pub mod periodics;
 pub mod secular;

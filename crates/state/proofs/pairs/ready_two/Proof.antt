@@ -1,7 +1,7 @@
 use Rattle.state.specs.Two.{readyTwo}
 use borrow.Author.Needs.{needs}
-use Rattle.state.proofs.sgp4.ready_two.Statement.{statement}
-use Rattle.state.proofs.sgp4.ready_two.Tie as tie
+use Rattle.state.proofs.pairs.ready_two.Statement.{statement}
+use Rattle.state.proofs.pairs.ready_two.Tie as tie
 
 returns : tie.Need-returns
 unfolding readyTwo
@@ -11,7 +11,15 @@ returns-2 : tie.Need-returns-2
 unfolding readyTwo
 returns-2 c =
     let f = c .before .before .before in
-    simp (← f .before .no-motion .ensures, f .if1 .left) (cc)
+    simp (
+      c .averaged-two .ensures,
+      c .before .mean2 .ensures,
+      c .before .before .mean .ensures,
+      f .before .before .secular2 .ensures,
+      f .before .before .before .secular .ensures,
+      ← f .before .no-motion .ensures,
+      f .if1 .left,
+    )
 
 pub ready-two-spec : {M : Type 1} → statement M
 ready-two-spec =

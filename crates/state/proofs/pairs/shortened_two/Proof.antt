@@ -1,7 +1,7 @@
 use Rattle.state.specs.Two.{shortenedTwo}
 use borrow.Author.Needs.{needs}
-use Rattle.state.proofs.sgp4.shortened_two.Statement.{statement}
-use Rattle.state.proofs.sgp4.shortened_two.Tie as tie
+use Rattle.state.proofs.pairs.shortened_two.Statement.{statement}
+use Rattle.state.proofs.pairs.shortened_two.Tie as tie
 
 returns : tie.Need-returns
 unfolding shortenedTwo
@@ -10,8 +10,18 @@ returns c = simp (← c .before .negative-latus2 .ensures, ← c .before .before
 returns-2 : tie.Need-returns-2
 unfolding shortenedTwo
 returns-2 c =
-    let f = c .before .before .before .before .before in
-    simp (← f .before .negative-latus2 .ensures, ← f .before .before .negative-latus .ensures, f .if1 .left) (cc)
+    let s = c .before .before in
+    let f = s .before .before .before in
+    simp (
+      c .placed-two .ensures,
+      c .before .short-period2 .ensures,
+      s .short-period .ensures,
+      s .before .plane2 .ensures,
+      s .before .before .plane .ensures,
+      ← f .before .negative-latus2 .ensures,
+      ← f .before .before .negative-latus .ensures,
+      f .if1 .left,
+    )
 
 pub shortened-two-spec : {M : Type 1} → statement M
 shortened-two-spec =

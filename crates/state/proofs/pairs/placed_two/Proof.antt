@@ -1,7 +1,7 @@
 use Rattle.state.specs.Two.{placedTwo}
 use borrow.Author.Needs.{needs}
-use Rattle.state.proofs.sgp4.placed_two.Statement.{statement}
-use Rattle.state.proofs.sgp4.placed_two.Tie as tie
+use Rattle.state.proofs.pairs.placed_two.Statement.{statement}
+use Rattle.state.proofs.pairs.placed_two.Tie as tie
 
 returns : tie.Need-returns
 unfolding placedTwo
@@ -10,8 +10,17 @@ returns c = simp (← c .before .decayed2 .ensures, ← c .before .before .decay
 returns-2 : tie.Need-returns-2
 unfolding placedTwo
 returns-2 c =
-    let f = c .before .before .before .before in
-    simp (← f .before .decayed2 .ensures, ← f .before .before .decayed .ensures, f .if1 .left) (cc)
+    let s = c .before .before in
+    let f = s .before .before in
+    simp (
+      c .given2 .ensures,
+      c .before .given .ensures,
+      s .state2 .ensures,
+      s .before .state .ensures,
+      ← f .before .decayed2 .ensures,
+      ← f .before .before .decayed .ensures,
+      f .if1 .left,
+    )
 
 pub placed-two-spec : {M : Type 1} → statement M
 placed-two-spec =

@@ -1,7 +1,7 @@
 use Rattle.state.specs.Two.{readyOf, averagedTwo}
 use borrow.Author.Needs.{needs}
-use Rattle.state.proofs.sgp4.averaged_two.Statement.{statement}
-use Rattle.state.proofs.sgp4.averaged_two.Tie as tie
+use Rattle.state.proofs.pairs.averaged_two.Statement.{statement}
+use Rattle.state.proofs.pairs.averaged_two.Tie as tie
 
 returns : tie.Need-returns
 unfolding averagedTwo
@@ -10,8 +10,17 @@ returns c = simp (← c .before .outside2 .ensures, ← c .before .before .outsi
 returns-2 : tie.Need-returns-2
 unfolding averagedTwo readyOf
 returns-2 c =
-    let f = c .before .before .before .before .before in
-    simp (← f .before .outside2 .ensures, ← f .before .before .outside .ensures, f .if1 .left) (cc)
+    let u = c .before .before in
+    let f = u .before .before .before in
+    simp (
+      c .unperturbed2 .ensures,
+      c .before .angles2 .ensures,
+      u .unperturbed .ensures,
+      u .before .angles .ensures,
+      ← f .before .outside2 .ensures,
+      ← f .before .before .outside .ensures,
+      f .if1 .left,
+    )
 
 pub averaged-two-spec : {M : Type 1} → statement M
 averaged-two-spec =
