@@ -4,7 +4,6 @@
 pub mod answer;
 pub mod kepler;
 pub mod orientation;
-pub mod pairs;
 pub mod parts;
 pub mod periodics;
 pub mod secular;

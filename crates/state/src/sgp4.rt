@@ -35,7 +35,9 @@ use instant::Minutes;
 use satellite::NearEarth;
 use satellite::Terms;
 
-pub fn given(s: State, rounds: u8) -> Answer
+pub mod pairs;
+
+fn given(s: State, rounds: u8) -> Answer
     ensures { λ r. ⌜ r ≡ R.given s rounds ⌝ }
 {
     if finite_state(s) {
@@ -74,7 +76,7 @@ pub fn periodics(p: Perturbed, am: f64, k: Terms) -> Answer
 }
 
 // A near-Earth satellite's perturbed elements are the mean ones.
-pub fn unperturbed(s: NearEarth, em: f64, a: Angles) -> Perturbed
+fn unperturbed(s: NearEarth, em: f64, a: Angles) -> Perturbed
     ensures { λ r. ⌜ r ≡ K.unperturbedFrom s em a ⌝ }
 {
     let ep = mended(em);

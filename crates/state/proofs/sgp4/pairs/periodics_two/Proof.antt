@@ -1,7 +1,7 @@
 use Rattle.state.specs.Two.{solvedOf, periodicsTwo}
 use borrow.Author.Needs.{needs}
-use Rattle.state.proofs.pairs.periodics_two.Statement.{statement}
-use Rattle.state.proofs.pairs.periodics_two.Tie as tie
+use Rattle.state.proofs.sgp4.pairs.periodics_two.Statement.{statement}
+use Rattle.state.proofs.sgp4.pairs.periodics_two.Tie as tie
 
 returns : tie.Need-returns
 unfolding periodicsTwo solvedOf

@@ -1,7 +1,7 @@
 use Rattle.sgp4.specs.Two.{deepTwo}
 use borrow.Author.Needs.{needs}
-use Rattle.sgp4.proofs.deep_space.deep_two.Statement.{statement}
-use Rattle.sgp4.proofs.deep_space.deep_two.Tie as tie
+use Rattle.sgp4.proofs.deep_space.pairs.deep_two.Statement.{statement}
+use Rattle.sgp4.proofs.deep_space.pairs.deep_two.Tie as tie
 
 returns : tie.Need-returns
 unfolding deepTwo

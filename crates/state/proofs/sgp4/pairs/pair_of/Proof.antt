@@ -1,8 +1,8 @@
 use mathlib.Core.Path.{sym, ap, _∙_}
 use Rattle.state.specs.Two.{pairOf}
 use borrow.Author.Needs.{needs}
-use Rattle.state.proofs.pairs.pair_of.Statement.{statement}
-use Rattle.state.proofs.pairs.pair_of.Tie as tie
+use Rattle.state.proofs.sgp4.pairs.pair_of.Statement.{statement}
+use Rattle.state.proofs.sgp4.pairs.pair_of.Tie as tie
 
 returns : tie.Need-returns
 unfolding pairOf

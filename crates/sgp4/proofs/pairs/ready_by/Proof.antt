@@ -2,8 +2,8 @@ use mathlib.Core.Path.{sym, ap, _∙_}
 use Rattle.satellite.specs.declared.Method.{Method}
 use Rattle.sgp4.specs.Two.{readyBy}
 use borrow.Author.Needs.{needs}
-use Rattle.sgp4.proofs.ready_by.Statement.{statement}
-use Rattle.sgp4.proofs.ready_by.Tie as tie
+use Rattle.sgp4.proofs.pairs.ready_by.Statement.{statement}
+use Rattle.sgp4.proofs.pairs.ready_by.Tie as tie
 
 returns : tie.Need-returns
 unfolding readyBy

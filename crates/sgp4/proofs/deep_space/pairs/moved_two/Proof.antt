@@ -1,14 +1,16 @@
+use Rattle.state.specs.Secular.{mean}
+use Rattle.state.specs.Kept.{meanFrom}
 use Rattle.sgp4.specs.Two.{driftOf, movedTwo}
 use borrow.Author.Needs.{needs}
-use Rattle.sgp4.proofs.deep_space.moved_two.Statement.{statement}
-use Rattle.sgp4.proofs.deep_space.moved_two.Tie as tie
+use Rattle.sgp4.proofs.deep_space.pairs.moved_two.Statement.{statement}
+use Rattle.sgp4.proofs.deep_space.pairs.moved_two.Tie as tie
 
 returns : tie.Need-returns
 unfolding movedTwo
 returns c = simp (← c .before .no-motion2 .ensures, ← c .before .before .no-motion .ensures, c .if1 .taken)
 
 returns-2 : tie.Need-returns-2
-unfolding movedTwo driftOf
+unfolding movedTwo driftOf mean meanFrom
 returns-2 c =
     let m = c .before in
     let p = m .before .before in

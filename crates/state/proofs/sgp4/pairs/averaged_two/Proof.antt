@@ -1,7 +1,7 @@
 use Rattle.state.specs.Two.{readyOf, averagedTwo}
 use borrow.Author.Needs.{needs}
-use Rattle.state.proofs.pairs.averaged_two.Statement.{statement}
-use Rattle.state.proofs.pairs.averaged_two.Tie as tie
+use Rattle.state.proofs.sgp4.pairs.averaged_two.Statement.{statement}
+use Rattle.state.proofs.sgp4.pairs.averaged_two.Tie as tie
 
 returns : tie.Need-returns
 unfolding averagedTwo

@@ -1,7 +1,7 @@
 use Rattle.state.specs.Two.{readyTwo}
 use borrow.Author.Needs.{needs}
-use Rattle.state.proofs.pairs.ready_two.Statement.{statement}
-use Rattle.state.proofs.pairs.ready_two.Tie as tie
+use Rattle.state.proofs.sgp4.pairs.ready_two.Statement.{statement}
+use Rattle.state.proofs.sgp4.pairs.ready_two.Tie as tie
 
 returns : tie.Need-returns
 unfolding readyTwo

@@ -1,7 +1,7 @@
 use Rattle.sgp4.specs.Two.{readyOf, perturbedTwo}
 use borrow.Author.Needs.{needs}
-use Rattle.sgp4.proofs.deep_space.perturbed_two.Statement.{statement}
-use Rattle.sgp4.proofs.deep_space.perturbed_two.Tie as tie
+use Rattle.sgp4.proofs.deep_space.pairs.perturbed_two.Statement.{statement}
+use Rattle.sgp4.proofs.deep_space.pairs.perturbed_two.Tie as tie
 
 returns : tie.Need-returns
 unfolding perturbedTwo

@@ -1,7 +1,7 @@
 use Rattle.sgp4.proofs.Two.{both-rows, pair-rows}
 use borrow.Author.Needs.{needs}
-use Rattle.sgp4.proofs.rows_at.Statement.{statement}
-use Rattle.sgp4.proofs.rows_at.Tie as tie
+use Rattle.sgp4.proofs.pairs.rows_at.Statement.{statement}
+use Rattle.sgp4.proofs.pairs.rows_at.Tie as tie
 
 returns : tie.Need-returns
 returns c =
