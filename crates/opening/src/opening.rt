@@ -160,7 +160,7 @@ fn above(el: Elements, i: Initl, days: f64, gsto: f64) -> Opening
 fn started(el: Elements, t: Instant) -> Opening
     ensures { λ r. ⌜ r ≡ O.started el (t .0) ⌝ }
 {
-    let i = initl(el.ecco, el.inclo, el.no);
+    let i = initl(el.ecco, instant::Radians(el.inclo), el.no);
     let days = epoch_days(t);
     let gsto = greenwich(t);
     above(el, i, days.0, gsto.0)
