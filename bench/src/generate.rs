@@ -3,7 +3,7 @@
 
 use crate::instant::{DAY, SPAN_LIMIT};
 use crate::random::Random;
-use crate::request::{LIST_LIMIT, STRIDE};
+use crate::request::{Saved, LIST_LIMIT, STRIDE};
 use crate::sgp4::{RADIUSEARTHKM, XKE};
 use crate::tle::{self, Exponential, Record, LENGTH};
 
@@ -396,4 +396,28 @@ fn list(random: &mut Random) -> Ask {
 pub fn sequence(random: &mut Random) -> Vec<Ask> {
     let count = 2 + random.below(7);
     (0..count).map(|_| if random.one_in(3) { list(random) } else { Ask::One(time(random)) }).collect()
+}
+
+/// A number of an integrated pair: one that strides give, or any f64 at all.
+fn integrated(random: &mut Random, low: f64, high: f64) -> f64 {
+    match random.below(8) {
+        0 => f64::from_bits(random.next_u64()),
+        1 => *random.pick(&[0.0, -0.0, f64::INFINITY, f64::NEG_INFINITY, f64::NAN, f64::MAX, 5e-324]),
+        _ => random.uniform(low, high),
+    }
+}
+
+/// Any saved position, whether or not requests lead to it.
+pub fn saved(random: &mut Random) -> Saved {
+    let stride = match random.below(4) {
+        0 => 0,
+        1 => random.below(u32::MAX as u64 + 1),
+        _ => random.below(14),
+    };
+    Saved {
+        forward: random.one_in(2),
+        stride,
+        xli: integrated(random, -7.0, 7.0),
+        xni: integrated(random, 0.003, 0.01),
+    }
 }

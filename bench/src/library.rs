@@ -3,7 +3,7 @@
 
 use crate::elementary::{Document, Elementary};
 use crate::instant::{self, SPAN_LIMIT};
-use crate::request::{list_by, Row, Satellite, STRIDE};
+use crate::request::{list_by, Row, Satellite, Saved, STRIDE};
 use crate::tle::{self, Refusal};
 use std::hint::black_box;
 use std::marker::PhantomData;
@@ -42,11 +42,33 @@ pub trait Library {
     fn lister(&self, line1: &[u8], line2: &[u8], times: &[i64]) -> Box<dyn Timed>;
 }
 
+/// What a single request tells beside its state.
+#[derive(Clone, Copy, Debug, PartialEq, Eq)]
+pub struct Told {
+    /// 0 where the time is answered.
+    pub refusal: u8,
+    pub rounds: u32,
+    pub strides: u64,
+}
+
 pub trait Opened {
-    /// The row of one time, and the strides reported.
-    fn request(&mut self, micros: i64) -> (Row, u64);
+    /// One time: position and velocity go into the room lent, which stays where the time is refused.
+    fn request(&mut self, micros: i64, room: &mut [f64; 6]) -> Told;
     /// Rows to the front of the room lent, and the strides reported; or 18, 17.
     fn list(&mut self, times: &[i64], rows: &mut [Row]) -> Result<u64, u8>;
+    /// The saved position, where the library keeps one.
+    fn saved(&self) -> Option<Saved>;
+    /// Another saved position is handed in.
+    fn hand(&mut self, saved: Saved);
+}
+
+/// A row told as a single request tells it.
+fn tell((row, strides): (Row, u64), room: &mut [f64; 6]) -> Told {
+    if row.refusal == 0 {
+        let ([x, y, z], [vx, vy, vz]) = (row.r, row.v);
+        *room = [x, y, z, vx, vy, vz];
+    }
+    Told { refusal: row.refusal, rounds: row.rounds, strides }
 }
 
 /// One call to be timed. All it needs is made ready outside of `run`.
@@ -167,12 +189,20 @@ impl<S: Opened + Copy> Timed for Lister<S> {
 }
 
 impl<E: Elementary> Opened for Satellite<E> {
-    fn request(&mut self, micros: i64) -> (Row, u64) {
-        Satellite::request(self, micros)
+    fn request(&mut self, micros: i64, room: &mut [f64; 6]) -> Told {
+        tell(Satellite::request(self, micros), room)
     }
 
     fn list(&mut self, times: &[i64], rows: &mut [Row]) -> Result<u64, u8> {
         Satellite::list(self, times, rows)
+    }
+
+    fn saved(&self) -> Option<Saved> {
+        Some(self.saved)
+    }
+
+    fn hand(&mut self, saved: Saved) {
+        self.saved = saved;
     }
 }
 
@@ -270,14 +300,26 @@ impl<E: Elementary> RestartingSatellite<E> {
         };
         m - saved
     }
+
+    fn row(&mut self, micros: i64) -> (Row, u64) {
+        (self.satellite.request_restarting(micros), self.count(micros))
+    }
 }
 
 impl<E: Elementary> Opened for RestartingSatellite<E> {
-    fn request(&mut self, micros: i64) -> (Row, u64) {
-        (self.satellite.request_restarting(micros), self.count(micros))
+    fn request(&mut self, micros: i64, room: &mut [f64; 6]) -> Told {
+        tell(self.row(micros), room)
     }
 
     fn list(&mut self, times: &[i64], rows: &mut [Row]) -> Result<u64, u8> {
-        list_by(times, rows, |micros| self.request(micros))
+        list_by(times, rows, |micros| self.row(micros))
+    }
+
+    fn saved(&self) -> Option<Saved> {
+        None
+    }
+
+    fn hand(&mut self, _: Saved) {
+        unreachable!("it keeps no position")
     }
 }

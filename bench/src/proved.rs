@@ -1,7 +1,7 @@
 //! The proved library, called over its C boundary by the safe wrapper in rust/.
 
-use crate::library::{Library, Opened, Reader, Timed, Unopened};
-use crate::request::Row;
+use crate::library::{Library, Opened, Reader, Timed, Told, Unopened};
+use crate::request::{Row, Saved};
 use crate::tle;
 use saddlekerf::{Field, Line, Microseconds, Refusal, Rooms, Satellite, State};
 use std::hint::black_box;
@@ -116,16 +116,25 @@ impl Memory {
     }
 }
 
+/// Where the saved position lies in a satellite's memory (crates/storage/specs/Storage.antt).
+const XLI: usize = 0;
+const XNI: usize = 1;
+const SIDE: usize = 0;
+const STRIDE_NUMBER: usize = 1;
+
 impl Opened for Satellite {
-    fn request(&mut self, micros: i64) -> (Row, u64) {
-        let answer = Satellite::request(self, Microseconds(micros));
-        let row = match answer.row {
-            Ok(saddlekerf::Row { state, rounds }) => {
-                Row { refusal: 0, r: state.position, v: state.velocity, rounds: rounds as u32 }
-            }
-            Err(refusal) => Row { refusal: refusal.number(), ..Row::EMPTY },
-        };
-        (row, answer.strides.0 as u64)
+    /// The library's own memory throughout: the state lent to it is what comes back.
+    fn request(&mut self, micros: i64, room: &mut [f64; 6]) -> Told {
+        let [x, y, z, vx, vy, vz] = *room;
+        let mut state = State { position: [x, y, z], velocity: [vx, vy, vz] };
+        let (rounds, strides) = self.request_into(Microseconds(micros), &mut state);
+        let ([x, y, z], [vx, vy, vz]) = (state.position, state.velocity);
+        *room = [x, y, z, vx, vy, vz];
+        let strides = strides.0 as u64;
+        match rounds {
+            Ok(rounds) => Told { refusal: 0, rounds: rounds as u32, strides },
+            Err(refusal) => Told { refusal: refusal.number(), rounds: 0, strides },
+        }
     }
 
     /// The rooms hold what the rows hold before and give all of them back, so that what is written
@@ -133,11 +142,30 @@ impl Opened for Satellite {
     fn list(&mut self, times: &[i64], rows: &mut [Row]) -> Result<u64, u8> {
         let times: Vec<Microseconds> = times.iter().copied().map(Microseconds).collect();
         let mut memory = Memory::of(rows);
-        let answer = Satellite::list(self, &times, &mut memory.lend());
+        let answer = Satellite::list(self, &times, &mut memory.lend()).map(|listed| listed.strides());
         for (place, row) in rows.iter_mut().enumerate() {
             *row = memory.row(place);
         }
         answer.map(|strides| strides.0 as u64).map_err(Refusal::number)
+    }
+
+    fn saved(&self) -> Option<Saved> {
+        let (numbers, marks) = self.memory();
+        Some(Saved {
+            forward: marks[SIDE] == 0,
+            stride: marks[STRIDE_NUMBER] as u64,
+            xli: numbers[XLI],
+            xni: numbers[XNI],
+        })
+    }
+
+    fn hand(&mut self, saved: Saved) {
+        let (numbers, marks) = self.memory();
+        let (mut numbers, mut marks) = (*numbers, *marks);
+        (numbers[XLI], numbers[XNI]) = (saved.xli, saved.xni);
+        marks[SIDE] = if saved.forward { 0 } else { 1 };
+        marks[STRIDE_NUMBER] = saved.stride.try_into().expect("a stride number");
+        *self = Satellite::from_memory(numbers, marks);
     }
 }
 
@@ -169,7 +197,9 @@ impl Timed for Lister {
     }
 
     fn run(&mut self) {
-        let strides = self.satellite.list(black_box(&self.times), &mut self.memory.lend());
-        black_box((strides.expect("a lawful list"), &mut self.memory));
+        let mut rooms = self.memory.lend();
+        let rows = self.satellite.list(black_box(&self.times), &mut rooms);
+        black_box(rows.expect("a lawful list").strides());
+        black_box(&mut self.memory);
     }
 }

@@ -1,10 +1,10 @@
 //! The short run of the comparison; `cargo run --release --bin compare` is the long one.
 
-use port::compare::{damaged_case, whole_case, Tally};
+use port::compare::{damaged_case, handed_case, whole_case, Tally};
 use port::elementary::{Document, DocumentProcessor, Libm};
-use port::library::{Library, Opened, Port, Restarting, Timed, Unopened};
+use port::library::{Library, Opened, Port, Restarting, Timed, Told, Unopened};
 use port::proved::Proved;
-use port::request::Row;
+use port::request::{Row, Saved};
 use port::tle::{self, Field, Refusal, LENGTH};
 use std::io::Write;
 
@@ -61,11 +61,25 @@ fn port_against_the_proved_library() {
         "row: refusal 12",
         "row: refusal 13",
         "row: refusal 14",
+        "row: refusal 15",
         "list: answered",
         "list: refusal 17",
         "list: refusal 18",
     ] {
         assert!(tally.of(name) >= 5, "{name}: {}", tally.of(name));
+    }
+}
+
+/// Any saved position handed in, on the proved library too.
+#[test]
+fn positions_handed_in() {
+    let (port, mut tally) = (Port::<Document>::new(), Tally::default());
+    for index in 0..1400 {
+        handed_case(SEED, index, (&port, &Proved), &mut tally).unwrap_or_else(|found| panic!("{found}"));
+    }
+    println!("{tally}");
+    for name in ["handed: positions", "row: refusal  0", "row: refusal 15", "list: answered", "strides"] {
+        assert!(tally.of(name) >= 100, "{name}: {}", tally.of(name));
     }
 }
 
@@ -135,6 +149,18 @@ enum Slip {
     PastTheLast,
     /// A list's last row left unwritten.
     Unwritten,
+    /// The state lent to a refused single request overwritten with zeros.
+    StateOfRefused,
+    /// Refusal 15 told as 14.
+    NotFinite,
+    /// A bit of the saved pair after a request.
+    Place,
+    /// The saved position lost after a time out of range.
+    PlaceAfterNine,
+    /// A position handed in ignored: the satellite asked as if newly opened.
+    Handed,
+    /// A position handed in taken up on either side of the epoch.
+    EitherSide,
     Column,
     Line,
     Field,
@@ -151,6 +177,8 @@ struct Slipping {
 
 struct SlippingSatellite {
     inner: Box<dyn Opened>,
+    fresh: Saved,
+    handed: bool,
     slip: Slip,
     left: u64,
 }
@@ -184,7 +212,16 @@ impl Library for Slipping {
 
     fn open(&self, line1: &[u8], line2: &[u8]) -> Result<Box<dyn Opened>, Unopened> {
         match Proved.open(line1, line2) {
-            Ok(inner) => Ok(Box::new(SlippingSatellite { inner, slip: self.slip, left: self.at })),
+            Ok(inner) => {
+                let fresh = inner.saved().unwrap();
+                Ok(Box::new(SlippingSatellite {
+                    inner,
+                    fresh,
+                    handed: false,
+                    slip: self.slip,
+                    left: self.at,
+                }))
+            }
             Err(Unopened::Unread(Refusal::Layout { line, column })) => {
                 let off = matches!(self.slip, Slip::OpenColumn) as u8;
                 Err(Unopened::Unread(Refusal::Layout { line, column: column + off }))
@@ -222,19 +259,59 @@ impl SlippingSatellite {
             },
             (Slip::Zero, 9..) if self.now() => flip(&mut row.v[1], 63),
             (Slip::Rounds, 0) if self.now() => row.rounds += 1,
+            (Slip::NotFinite, 15) => row.refusal = 14,
             _ => {}
         }
+    }
+
+    /// What slips in a position handed in, when the next time is asked.
+    fn taken(&mut self, micros: i64) {
+        let saved = self.inner.saved().unwrap();
+        match self.slip {
+            Slip::Handed if std::mem::take(&mut self.handed) => self.inner.hand(self.fresh),
+            Slip::EitherSide => self.inner.hand(Saved { forward: micros >= 0, ..saved }),
+            _ => {}
+        }
+    }
+
+    /// What slips in the saved position after a request.
+    fn place(&mut self, refusal: u8) {
+        let mut saved = self.inner.saved().unwrap();
+        match (self.slip, refusal) {
+            (Slip::Place, _) => saved.xni = f64::from_bits(saved.xni.to_bits() ^ 1),
+            (Slip::PlaceAfterNine, 9) => saved = self.fresh,
+            _ => return,
+        }
+        self.inner.hand(saved);
     }
 }
 
 impl Opened for SlippingSatellite {
-    fn request(&mut self, micros: i64) -> (Row, u64) {
-        let (mut row, mut strides) = self.inner.request(micros);
+    fn request(&mut self, micros: i64, room: &mut [f64; 6]) -> Told {
+        self.taken(micros);
+        let Told { refusal, rounds, mut strides } = self.inner.request(micros, room);
+        let [x, y, z, vx, vy, vz] = *room;
+        let mut row = Row { refusal, r: [x, y, z], v: [vx, vy, vz], rounds };
         self.row(&mut row);
+        self.place(refusal);
         if matches!(self.slip, Slip::Strides) && self.now() {
             strides += 1;
         }
-        (row, strides)
+        let ([x, y, z], [vx, vy, vz]) = (row.r, row.v);
+        *room = [x, y, z, vx, vy, vz];
+        if matches!(self.slip, Slip::StateOfRefused) && refusal != 0 {
+            *room = [0.0; 6];
+        }
+        Told { refusal: row.refusal, rounds: row.rounds, strides }
+    }
+
+    fn saved(&self) -> Option<Saved> {
+        self.inner.saved()
+    }
+
+    fn hand(&mut self, saved: Saved) {
+        self.inner.hand(saved);
+        self.handed = true;
     }
 
     fn list(&mut self, times: &[i64], rows: &mut [Row]) -> Result<u64, u8> {
@@ -257,7 +334,8 @@ fn found(slip: Slip, at: u64) -> String {
     let mut tally = Tally::default();
     for index in 0..400 {
         let whole = whole_case(SEED, index, libraries, &mut tally);
-        if let Err(difference) = whole.and_then(|()| damaged_case(SEED, index, libraries, &mut tally)) {
+        let other = whole.and_then(|()| damaged_case(SEED, index, libraries, &mut tally));
+        if let Err(difference) = other.and_then(|()| handed_case(SEED, index, libraries, &mut tally)) {
             return difference.what;
         }
     }
@@ -287,6 +365,12 @@ fn every_other_slip_is_seen() {
         (Slip::Rounds, ["time ", "list "]),
         (Slip::Zero, ["time ", "list "]),
         (Slip::Strides, ["time "; 2]),
+        (Slip::StateOfRefused, ["time "; 2]),
+        (Slip::NotFinite, ["time ", "list "]),
+        (Slip::Place, ["saved "; 2]),
+        (Slip::PlaceAfterNine, ["saved "; 2]),
+        (Slip::Handed, ["time ", "saved "]),
+        (Slip::EitherSide, ["time ", "saved "]),
         (Slip::PastTheLast, ["list "; 2]),
         (Slip::Unwritten, ["list "; 2]),
         (Slip::Column, ["reading"; 2]),

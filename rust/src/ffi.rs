@@ -6,6 +6,10 @@
 //! header's rules of memory, and the library keeps nothing after the return.
 
 use crate::{Microseconds, State};
+use std::arch::asm;
+
+#[cfg(not(all(target_arch = "x86_64", target_os = "linux")))]
+compile_error!("libsaddlekerf.a is for Linux on x86-64");
 
 /// Elements of a satellite's memory.
 pub const NUMBERS: usize = 83;
@@ -82,6 +86,19 @@ mod c {
             rounds_length: usize,
         ) -> u64;
     }
+}
+
+/// The bits of MXCSR that change results or trap: denormals-are-zero (6), the six masks (7-12),
+/// rounding (13-14), flush-to-zero (15); and what they are at the start of a thread.
+pub const MXCSR_CONTROL: u32 = 0xffc0;
+pub const MXCSR_DEFAULT: u32 = 0x1f80;
+
+/// The control and status word of the processor's f64 arithmetic.
+pub fn mxcsr() -> u32 {
+    let mut word = 0u32;
+    // SAFETY: stmxcsr writes the four bytes of `word` and nothing else.
+    unsafe { asm!("stmxcsr [{}]", in(reg) &raw mut word, options(nostack, preserves_flags)) };
+    word
 }
 
 pub fn read(line1: &[u8], line2: &[u8]) -> u64 {
