@@ -8,7 +8,7 @@ use crate::library::{Library, Opened};
 use crate::random::Random;
 use crate::request::{Row, Satellite, Saved};
 use crate::sgp4::{self, Elements};
-use crate::tle;
+use crate::tle::{self, Record};
 use std::collections::BTreeMap;
 
 /// How often each thing was met, by name.
@@ -59,6 +59,7 @@ fn case_random(seed: u64, kind: u64, index: u64) -> Random {
 const WHOLE: u64 = 1;
 const DAMAGED: u64 = 2;
 const HANDED: u64 = 3;
+const RECORD: u64 = 4;
 
 /// A state that no library writes, to see what it leaves alone: NaNs with bits of their own among it.
 const UNTOUCHED: [f64; 6] = [
@@ -242,6 +243,39 @@ fn ask_all(
     Ok(())
 }
 
+/// Both lines of a record, into rooms of any length: what is written, what lies past it, and what a
+/// refused call leaves. Lines written read as the record again.
+fn write_both(
+    random: &mut Random,
+    record: &Record,
+    libraries: (&dyn Library, &dyn Library),
+    tally: &mut Tally,
+) -> Result<(), String> {
+    let (one, other) = libraries;
+    let mut lines = vec![];
+    for which in [1, 2] {
+        let length = if random.one_in(8) { random.below(69) } else { 69 + random.below(4) } as usize;
+        let (mut room, mut other_room) = (vec![b'#'; length], vec![b'#'; length]);
+        let (a, b) = (one.write(record, which, &mut room), other.write(record, which, &mut other_room));
+        match a {
+            Ok(()) => tally.add("write: written", 1),
+            Err(refusal) => tally.add(format!("write: refusal {refusal}"), 1),
+        }
+        let text = |room: &[u8]| String::from_utf8_lossy(room).into_owned();
+        let shown = ((a, text(&room)), (b, text(&other_room)));
+        same_or(&format!("writing {record:?}"), shown.0 == shown.1, &shown.0, &shown.1)?;
+        if a.is_ok() {
+            room.truncate(69);
+            lines.push(room);
+        }
+    }
+    if let [line1, line2] = &lines[..] {
+        let again = other.record(line1, line2);
+        same_or("writing and reading again", again == Ok(*record), &again, record)?;
+    }
+    Ok(())
+}
+
 fn compare_pair(
     random: &mut Random,
     line1: &[u8],
@@ -261,6 +295,11 @@ fn compare_pair(
     let (a, b) = (one.print(line1, line2), other.print(line1, line2));
     let text = |bytes: &[u8]| String::from_utf8_lossy(bytes).into_owned();
     same_or("printing", a == b, &text(&a), &text(&b))?;
+    let (a, b) = (one.record(line1, line2), other.record(line1, line2));
+    same_or("record", a == b, &a, &b)?;
+    if let Ok(record) = a {
+        write_both(random, &record, libraries, tally)?;
+    }
     match (one.open(line1, line2), other.open(line1, line2)) {
         (Ok(mut a), Ok(mut b)) => {
             tally.add("open: opened", 1);
@@ -359,6 +398,23 @@ pub fn handed_case(
         case: format!("seed {seed}, positions handed in {index} ({aim:?})"),
         line1: line1.escape_ascii().to_string(),
         line2: line2.escape_ascii().to_string(),
+        what,
+    })
+}
+
+/// Case `index` of the records to be written, inside layout and ranges or not.
+pub fn record_case(
+    seed: u64,
+    index: u64,
+    libraries: (&dyn Library, &dyn Library),
+    tally: &mut Tally,
+) -> Result<(), Difference> {
+    let mut random = case_random(seed, RECORD, index);
+    let record = generate::any_record(&mut random);
+    write_both(&mut random, &record, libraries, tally).map_err(|what| Difference {
+        case: format!("seed {seed}, record {index}"),
+        line1: String::new(),
+        line2: String::new(),
         what,
     })
 }

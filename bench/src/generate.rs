@@ -208,6 +208,58 @@ pub fn record(random: &mut Random, aim: Aim) -> Record {
     record
 }
 
+/// A record of which some fields may be outside layout and ranges: each at, beside or far from a limit.
+pub fn any_record(random: &mut Random) -> Record {
+    let mut record = anything(random);
+    for _ in 0..random.below(3) {
+        spoil(random, &mut record);
+    }
+    record
+}
+
+/// One field put at, beside or far from one of its limits.
+fn spoil(random: &mut Random, record: &mut Record) {
+    let off = *random.pick(&[-1, 0, 1, 1_000_000_007]);
+    let near = |limit: i64| limit + off;
+    let small = |limit: i64| near(limit).clamp(0, 255) as u8;
+    let short = |limit: i64| near(limit).clamp(0, 65_535) as u16;
+    let whole = |limit: i64| near(limit).clamp(0, u32::MAX as i64) as u32;
+    let long = |limit: i64| near(limit).max(0) as u64;
+    let signed = |limit: i64| near(limit).clamp(i32::MIN as i64, i32::MAX as i64) as i32;
+    let exponent = |limit: i64| near(limit).clamp(-128, 127) as i8;
+    let side = *random.pick(&[-1, 1]);
+    match random.below(17) {
+        0 => record.number = whole(99_999),
+        1 => record.classification = random.next_u64() as u8,
+        2 => {
+            record.designator[..5].copy_from_slice(b"58002");
+            record.designator[5 + random.below(3) as usize] = *random.pick(b" AZ@[a0\0");
+        }
+        3 => record.designator = *random.pick(&[*b"        ", *b"00001   ", *b"99999A A", *b"00000A  "]),
+        4 => record.year = *random.pick(&[short(1957), short(2056), 0, 57, 65_535]),
+        5 => record.day = *random.pick(&[long(1_0000_0000), long(367_0000_0000), 0, u64::MAX]),
+        6 => record.ndot = side * signed(9999_9999),
+        7 => record.nddot.mantissa = side * signed(99_999),
+        8 => record.nddot.exponent = *random.pick(&[exponent(9), exponent(-9), exponent(0)]),
+        9 => record.bstar.mantissa = *random.pick(&[side * signed(99_999), 0]),
+        10 => record.bstar.exponent = *random.pick(&[exponent(9), exponent(-9), exponent(0)]),
+        11 => record.ephemeris = small(9),
+        12 => record.set = short(9999),
+        13 => record.inclination = whole(180_0000),
+        14 => {
+            let angle = whole(360_0000);
+            let angles = [&mut record.node, &mut record.perigee, &mut record.anomaly];
+            *angles.into_iter().nth(random.below(3) as usize).expect("one of three") = angle;
+        }
+        15 => record.eccentricity = whole(999_9999),
+        _ => match random.below(3) {
+            0 => record.revolution = whole(99_999),
+            1 => record.motion = long(0),
+            _ => record.motion = *random.pick(&[long(99_9999_9999), u64::MAX]),
+        },
+    }
+}
+
 // -------------------------------------------------------------------- lines
 
 fn mend(line: &mut Line) {

@@ -4,7 +4,7 @@
 use crate::elementary::{Document, Elementary};
 use crate::instant::{self, SPAN_LIMIT};
 use crate::request::{list_by, Row, Satellite, Saved, STRIDE};
-use crate::tle::{self, Refusal};
+use crate::tle::{self, Record, Refusal};
 use std::hint::black_box;
 use std::marker::PhantomData;
 
@@ -32,6 +32,10 @@ pub trait Library {
     fn epoch(&self, line1: &[u8], line2: &[u8]) -> Result<u64, Refusal>;
     /// What the program prints for a pair.
     fn print(&self, line1: &[u8], line2: &[u8]) -> Vec<u8>;
+    /// The record of a pair; or as `read`.
+    fn record(&self, line1: &[u8], line2: &[u8]) -> Result<Record, Refusal>;
+    /// Writes line 1 or 2 of a record at the front of the room lent; or 16, 17.
+    fn write(&self, record: &Record, which: u8, room: &mut [u8]) -> Result<(), u8>;
     /// Reads and opens a pair.
     fn open(&self, line1: &[u8], line2: &[u8]) -> Result<Box<dyn Opened>, Unopened>;
     /// For timing: reads a pair.
@@ -104,6 +108,14 @@ impl<E: Elementary + Copy + 'static> Library for Port<E> {
 
     fn print(&self, line1: &[u8], line2: &[u8]) -> Vec<u8> {
         tle::print(line1, line2).into_bytes()
+    }
+
+    fn record(&self, line1: &[u8], line2: &[u8]) -> Result<Record, Refusal> {
+        tle::read(line1, line2)
+    }
+
+    fn write(&self, record: &Record, which: u8, room: &mut [u8]) -> Result<(), u8> {
+        tle::write(record, which, room)
     }
 
     fn epoch(&self, line1: &[u8], line2: &[u8]) -> Result<u64, Refusal> {
@@ -240,6 +252,14 @@ impl<E: Elementary + Copy + 'static> Library for Restarting<E> {
 
     fn print(&self, line1: &[u8], line2: &[u8]) -> Vec<u8> {
         self.0.print(line1, line2)
+    }
+
+    fn record(&self, line1: &[u8], line2: &[u8]) -> Result<Record, Refusal> {
+        self.0.record(line1, line2)
+    }
+
+    fn write(&self, record: &Record, which: u8, room: &mut [u8]) -> Result<(), u8> {
+        self.0.write(record, which, room)
     }
 
     fn epoch(&self, line1: &[u8], line2: &[u8]) -> Result<u64, Refusal> {

@@ -2,8 +2,8 @@
 
 use crate::library::{Library, Opened, Reader, Timed, Told, Unopened};
 use crate::request::{Row, Saved};
-use crate::tle;
-use saddlekerf::{Field, Line, Microseconds, Refusal, Rooms, Satellite, State};
+use crate::tle::{self, Exponential};
+use saddlekerf::{Field, Line, Microseconds, Record, Refusal, Rooms, Satellite, State};
 use std::hint::black_box;
 
 pub struct Proved;
@@ -46,6 +46,68 @@ fn unread(refusal: Refusal) -> tle::Refusal {
     }
 }
 
+fn exponential(x: saddlekerf::Exponential) -> Exponential {
+    Exponential { mantissa: x.mantissa, exponent: x.exponent }
+}
+
+fn proved_exponential(x: Exponential) -> saddlekerf::Exponential {
+    saddlekerf::Exponential { mantissa: x.mantissa, exponent: x.exponent }
+}
+
+const BLANK: [u8; 3] = *b"   ";
+
+/// The library's record in the port's terms: the designator as its eight columns.
+fn record(r: Record) -> tle::Record {
+    let text = match (r.launch, r.piece) {
+        (0, BLANK) => " ".repeat(8),
+        (launch, piece) => format!("{launch:05}{}", piece.escape_ascii()),
+    };
+    tle::Record {
+        number: r.number,
+        classification: r.class,
+        designator: text.as_bytes().try_into().expect("eight columns"),
+        year: r.year,
+        day: r.day,
+        ndot: r.ndot,
+        nddot: exponential(r.nddot),
+        bstar: exponential(r.bstar),
+        ephemeris: r.ephemeris_type,
+        set: r.set,
+        inclination: r.inclination,
+        node: r.node,
+        eccentricity: r.eccentricity,
+        perigee: r.perigee,
+        anomaly: r.anomaly,
+        motion: r.motion,
+        revolution: r.revolution,
+    }
+}
+
+/// The port's record in the library's terms. A designator's first five columns are blank or digits.
+fn proved_record(r: &tle::Record) -> Record {
+    let (launch, piece) = r.designator.split_at(5);
+    Record {
+        number: r.number,
+        class: r.classification,
+        launch: launch.iter().fold(0, |n, &byte| 10 * n + (byte & 15) as u32),
+        piece: piece.try_into().expect("three columns"),
+        year: r.year,
+        day: r.day,
+        ndot: r.ndot,
+        nddot: proved_exponential(r.nddot),
+        bstar: proved_exponential(r.bstar),
+        ephemeris_type: r.ephemeris,
+        set: r.set,
+        inclination: r.inclination,
+        node: r.node,
+        eccentricity: r.eccentricity,
+        perigee: r.perigee,
+        anomaly: r.anomaly,
+        motion: r.motion,
+        revolution: r.revolution,
+    }
+}
+
 impl Library for Proved {
     fn name(&self) -> String {
         "proved library".to_string()
@@ -61,6 +123,21 @@ impl Library for Proved {
 
     fn print(&self, line1: &[u8], line2: &[u8]) -> Vec<u8> {
         saddlekerf::printed(line1, line2).into_bytes()
+    }
+
+    fn record(&self, line1: &[u8], line2: &[u8]) -> Result<tle::Record, tle::Refusal> {
+        Record::read(line1, line2).map(record).map_err(unread)
+    }
+
+    fn write(&self, record: &tle::Record, which: u8, room: &mut [u8]) -> Result<(), u8> {
+        let line = if which == 1 { Line::One } else { Line::Two };
+        match proved_record(record).write_line(line, room) {
+            Ok(written) => {
+                assert_eq!(written.len(), Record::LINE);
+                Ok(())
+            }
+            Err(refusal) => Err(refusal.number()),
+        }
     }
 
     fn open(&self, line1: &[u8], line2: &[u8]) -> Result<Box<dyn Opened>, Unopened> {

@@ -1,11 +1,11 @@
 //! The short run of the comparison; `cargo run --release --bin compare` is the long one.
 
-use port::compare::{damaged_case, handed_case, whole_case, Tally};
+use port::compare::{damaged_case, handed_case, record_case, whole_case, Tally};
 use port::elementary::{Document, DocumentProcessor, Libm};
 use port::library::{Library, Opened, Port, Restarting, Timed, Told, Unopened};
 use port::proved::Proved;
 use port::request::{Row, Saved};
-use port::tle::{self, Field, Refusal, LENGTH};
+use port::tle::{self, Field, Record, Refusal, LENGTH};
 use std::io::Write;
 
 const SEED: u64 = 72;
@@ -65,9 +65,44 @@ fn port_against_the_proved_library() {
         "list: answered",
         "list: refusal 17",
         "list: refusal 18",
+        "write: written",
+        "write: refusal 17",
     ] {
         assert!(tally.of(name) >= 5, "{name}: {}", tally.of(name));
     }
+}
+
+/// Records inside layout and ranges and outside, written.
+#[test]
+fn records_written() {
+    let (port, mut tally) = (Port::<Document>::new(), Tally::default());
+    for index in 0..20_000 {
+        record_case(SEED, index, (&port, &Proved), &mut tally).unwrap_or_else(|found| panic!("{found}"));
+    }
+    println!("{tally}");
+    for name in ["write: written", "write: refusal 16", "write: refusal 17"] {
+        assert!(tally.of(name) >= 1000, "{name}: {}", tally.of(name));
+    }
+}
+
+/// The record of every published pair, written and read again.
+#[test]
+fn published_records_written() {
+    let mut count = 0;
+    for (line1, line2) in port::published::pairs() {
+        let record = Proved.record(&line1, &line2);
+        assert_eq!(record, tle::read(&line1, &line2));
+        let Ok(record) = record else { continue };
+        let mut lines = [[b'#'; LENGTH + 2]; 2];
+        for (which, line) in [1, 2].into_iter().zip(&mut lines) {
+            assert_eq!(Proved.write(&record, which, line), Ok(()));
+            assert_eq!(line[..LENGTH], tle::written(&record, which).unwrap());
+            assert_eq!(line[LENGTH..], *b"##");
+        }
+        assert_eq!(Proved.record(&lines[0][..LENGTH], &lines[1][..LENGTH]), Ok(record));
+        count += 1;
+    }
+    assert!(count >= 28, "{count}");
 }
 
 /// Any saved position handed in, on the proved library too.
@@ -167,6 +202,16 @@ enum Slip {
     OpenColumn,
     Epoch,
     Text,
+    /// A field of a record read.
+    RecordField,
+    /// A byte of a line written, its checksum as it was.
+    Written,
+    /// A write past the line.
+    PastTheLine,
+    /// A write into a room that is too short.
+    ShortRoom,
+    /// A record outside its ranges written as one inside.
+    Unlawful,
 }
 
 /// The proved library with a slip. Rows slip only once, after `at` others that could have.
@@ -208,6 +253,28 @@ impl Library for Slipping {
             text.pop();
         }
         text
+    }
+
+    fn record(&self, line1: &[u8], line2: &[u8]) -> Result<Record, Refusal> {
+        let off = matches!(self.slip, Slip::RecordField) as i8;
+        Proved.record(line1, line2).map(|mut record| {
+            record.bstar.exponent ^= off;
+            record
+        })
+    }
+
+    fn write(&self, record: &Record, which: u8, room: &mut [u8]) -> Result<(), u8> {
+        let mut answer = Proved.write(record, which, room);
+        match (self.slip, answer) {
+            (Slip::Written, Ok(())) => room[4] ^= 1,
+            (Slip::PastTheLine, Ok(())) if room.len() > LENGTH => room[LENGTH] = 0,
+            (Slip::ShortRoom, Err(17)) if !room.is_empty() => room[0] = b'1',
+            (Slip::Unlawful, Err(16)) => {
+                answer = Proved.write(&Record { node: record.node % 360_0000, ..*record }, which, room)
+            }
+            _ => {}
+        }
+        answer
     }
 
     fn open(&self, line1: &[u8], line2: &[u8]) -> Result<Box<dyn Opened>, Unopened> {
@@ -335,7 +402,8 @@ fn found(slip: Slip, at: u64) -> String {
     for index in 0..400 {
         let whole = whole_case(SEED, index, libraries, &mut tally);
         let other = whole.and_then(|()| damaged_case(SEED, index, libraries, &mut tally));
-        if let Err(difference) = other.and_then(|()| handed_case(SEED, index, libraries, &mut tally)) {
+        let other = other.and_then(|()| handed_case(SEED, index, libraries, &mut tally));
+        if let Err(difference) = other.and_then(|()| record_case(SEED, index, libraries, &mut tally)) {
             return difference.what;
         }
     }
@@ -379,6 +447,11 @@ fn every_other_slip_is_seen() {
         (Slip::OpenColumn, ["opening"; 2]),
         (Slip::Epoch, ["epoch"; 2]),
         (Slip::Text, ["printing"; 2]),
+        (Slip::RecordField, ["record"; 2]),
+        (Slip::Written, ["writing"; 2]),
+        (Slip::PastTheLine, ["writing"; 2]),
+        (Slip::ShortRoom, ["writing"; 2]),
+        (Slip::Unlawful, ["writing"; 2]),
     ] {
         let what = found(slip, 0);
         assert!(starts.iter().any(|start| what.starts_with(start)), "{slip:?}: {what}");

@@ -60,10 +60,12 @@
 
 #[allow(unsafe_code)]
 mod ffi;
+mod record;
 mod refusal;
 mod satellite;
 mod time;
 
+pub use record::{Exponential, Record};
 pub use refusal::{Field, Line, Refusal};
 pub use satellite::{Answer, Rooms, Row, Rows, Satellite, State};
 pub use time::{Instant, Microseconds, Strides};
@@ -101,6 +103,12 @@ pub fn epoch(line1: &[u8], line2: &[u8]) -> Result<Instant, Refusal> {
     let mut instant = 0;
     Packed(ffi::epoch(line1, line2, &mut instant)).plain()?;
     Ok(Instant(instant))
+}
+
+/// The version of the archive: 10000 × major + 100 × minor + patch. An archive whose functions, answers
+/// or layouts of memory are not those of this package does not link with it.
+pub fn version() -> u64 {
+    ffi::version()
 }
 
 /// Whether this thread's floating-point environment is the one that the proofs speak of: rounding to

@@ -62,7 +62,7 @@ pub enum Refusal {
     Radius,
     /// 15: a number of the state is not finite.
     StateNotFinite,
-    /// 16: a record outside layout or ranges. Never given for lines: their record is always lawful.
+    /// 16: a record to be written is outside layout or ranges.
     Record,
     /// 17: lent room too short.
     Room,
