@@ -44,6 +44,28 @@ fn read_pairs() {
     fs::remove_dir_all(folder).unwrap();
 }
 
+/// Inputs and outputs of both programs, made from the published rows, which vectors.rs holds to the port.
+#[test]
+fn published_rows_and_replay() {
+    let folder = std::env::temp_dir().join(format!("published-rows-{}", std::process::id()));
+    fs::create_dir_all(&folder).unwrap();
+    output(Command::new("python3").arg(root().join("tests/published_rows.py")).arg(&folder));
+    for file in ["published_rows/stdin", "published_rows/stdout", "replay/stdin", "replay/stdout"] {
+        assert!(fs::read(folder.join(file)).unwrap() == stored(&format!("crates/{file}")), "{file}");
+    }
+    fs::remove_dir_all(folder).unwrap();
+}
+
+/// What elementary_vectors reads is what the port is held to, and what print_pair reads and prints is
+/// document 01's example by the port.
+#[test]
+fn vectors_and_example() {
+    assert!(stored("bench/vectors/elementary.txt") == stored("crates/elementary_vectors/stdin"));
+    let input = stored("crates/print_pair/stdin");
+    let lines: Vec<&[u8]> = input.split(|&byte| byte == b'\n').collect();
+    assert_eq!(tle::print(lines[0], lines[1]).as_bytes(), stored("crates/print_pair/stdout"));
+}
+
 #[test]
 fn opened_numbers() {
     let set = stored("bench/vectors/SGP4-VER.TLE");
