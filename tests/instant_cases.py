@@ -15,11 +15,19 @@ numbers in two's complement, f64 numbers as their bit patterns.
                                   the year is 1957-2056 and 1 <= day < 367,
                                   otherwise 0, with INSTANT 0
   split INSTANT YEAR DAY MICROS   calendar year, day of the year from 1,
-                                  microseconds of that day
+                                  microseconds of that day; zeros for an
+                                  instant outside 1957-2056
   move INSTANT SPAN REFUSAL NEW   refusal 9, then 6; NEW is 0 when refused
+  since INSTANT EPOCH REFUSAL MICROS
+                                  INSTANT less EPOCH; refusal 6, with MICROS 0,
+                                  where either is outside 1957-2056
   minutes MICROS F64              MICROS / 60,000,000 rounded once
-  jd INSTANT F64                  Julian date
-  gst INSTANT F64                 Greenwich angle, 0 to two pi
+  days INSTANT REFUSAL F64        days since 1949 December 31, 0h
+  jd INSTANT REFUSAL F64          Julian date
+  gst INSTANT REFUSAL F64         Greenwich angle, 0 to two pi
+
+The last three have refusal 6, and 0 for the number, where the instant is outside
+1957-2056.
 
 `minutes` goes over all of i64. Past 2^53, where a count is no longer an f64, it
 has cases in which a count rounded first and then divided gives another number.
@@ -59,7 +67,13 @@ def epoch(year, day8):
     return 1, days_before(year) * DAY + (day8 - ONE_DAY8) * LAST_DIGIT
 
 
+def inside(instant):
+    return 0 <= instant < END
+
+
 def split(instant):
+    if not inside(instant):
+        return 0, 0, 0
     whole, micros = divmod(instant, DAY)
     day = date.fromordinal(date(FIRST_YEAR, 1, 1).toordinal() + whole)
     return day.year, day.timetuple().tm_yday, micros
@@ -68,9 +82,15 @@ def split(instant):
 def move(instant, span):
     if abs(span) > SPAN_LIMIT:
         return 9, 0
-    if not (0 <= instant < END and 0 <= instant + span < END):
+    if not (inside(instant) and inside(instant + span)):
         return 6, 0
     return 0, instant + span
+
+
+def since(instant, epoch):
+    if not (inside(instant) and inside(epoch)):
+        return 6, 0
+    return 0, instant - epoch
 
 
 # f64 numbers are fractions here; each operation rounds its exact result once.
@@ -110,9 +130,12 @@ def minutes(micros):
     return rounded(Fraction(micros, 60_000_000))
 
 
+def epoch_days(instant):
+    return add(rounded(Fraction(instant, DAY)), 2558)
+
+
 def julian_date(instant):
-    epoch_days = add(rounded(Fraction(instant, DAY)), 2558)
-    return add(epoch_days, literal("2433281.5"))
+    return add(epoch_days(instant), literal("2433281.5"))
 
 
 def greenwich(instant):
@@ -164,6 +187,9 @@ def epoch_cases(rng):
         yield rng.getrandbits(64), rng.getrandbits(64)
 
 
+OUTSIDE = (END, END + 1, END + DAY, 2**53, 2**62, 2**63 - 1, 2**63, 2**64 - 1)
+
+
 def inside_cases(rng):
     """Instants inside the calendar."""
     yield from (0, 1, DAY - 1, DAY, END - 1, END - DAY, END - DAY - 1)
@@ -205,6 +231,16 @@ def move_cases(rng):
         yield rng.randrange(END), rng.getrandbits(64) - 2**63
 
 
+def since_cases(rng):
+    middle = epoch(2000, 179_78495062)[1]
+    ends = (0, 1, middle, SPAN_LIMIT, SPAN_LIMIT + 1, END - 2, END - 1) + OUTSIDE
+    for instant in ends:
+        for start in ends:
+            yield instant, start
+    for _ in range(60):
+        yield rng.randrange(END), rng.randrange(END)
+
+
 def minutes_cases(rng):
     yield from (0, 1, -1, 59_999_999, 60_000_000, 60_000_001, -60_000_000,
                 SPAN_LIMIT, -SPAN_LIMIT, SPAN_LIMIT + 1, -SPAN_LIMIT - 1,
@@ -239,15 +275,18 @@ def cases(seed):
     for year, day8 in epoch_cases(rng):
         ok, instant = epoch(year, day8)
         yield "epoch", [number(year), number(day8), number(ok), number(instant)]
-    for instant in inside_cases(rng):
+    for instant in (*inside_cases(rng), *OUTSIDE):
         yield "split", [number(n) for n in (instant, *split(instant))]
     for instant, span in move_cases(rng):
         yield "move", [number(n) for n in (instant, span, *move(instant, span))]
     for micros in minutes_cases(rng):
         yield "minutes", [number(micros), bits(minutes(micros))]
-    for instant in angle_cases(rng):
-        yield "jd", [number(instant), bits(julian_date(instant))]
-        yield "gst", [number(instant), bits(greenwich(instant))]
+    for instant in (*angle_cases(rng), *OUTSIDE):
+        for name, of in (("days", epoch_days), ("jd", julian_date), ("gst", greenwich)):
+            answer = [number(0), bits(of(instant))] if inside(instant) else [number(6), number(0)]
+            yield name, [number(instant), *answer]
+    for instant, start in since_cases(rng):
+        yield "since", [number(n) for n in (instant, start, *since(instant, start))]
 
 
 def main():

@@ -1,8 +1,9 @@
 //! The port against the Python programs in tests/, written apart from it: the
-//! reader of two-line sets over whole and damaged pairs, and the arithmetic on
-//! instants. Two independent readings of document 01 have to agree before the
+//! reader of two-line sets over whole and damaged pairs, the arithmetic on
+//! instants, and the sine and cosine of large angles. Two independent readings of document 01 have to agree before the
 //! proved code is held against either.
 
+use port::elementary::{Document, Elementary};
 use port::generate;
 use port::instant;
 use port::random::Random;
@@ -108,11 +109,15 @@ fn instants() {
         let words: Vec<&str> = line.split(' ').collect();
         let n: Vec<i64> = words[1..].iter().map(|w| u64::from_str_radix(w, 16).unwrap() as i64).collect();
         let bits = |x: f64| x.to_bits() as i64;
+        let inside = |instant: i64| (0..instant::END).contains(&instant);
+        // A number at an instant: refusal 6, with no number, outside the calendar.
+        let at = |number: fn(i64) -> f64| if inside(n[0]) { vec![0, bits(number(n[0]))] } else { vec![6, 0] };
         let results: Vec<i64> = match words[0] {
             "epoch" => match instant::from_epoch(n[0], n[1]) {
                 Some(instant) => vec![1, instant],
                 None => vec![0, 0],
             },
+            "split" if !inside(n[0]) => vec![0, 0, 0],
             "split" => {
                 let (year, day, micros) = instant::split(n[0]);
                 vec![year, day, micros]
@@ -122,12 +127,32 @@ fn instants() {
                 Err(refusal) => vec![refusal as i64, 0],
             },
             "minutes" => vec![bits(instant::minutes(n[0]))],
-            "jd" => vec![bits(instant::epoch_days(n[0]) + 2433281.5)],
-            "gst" => vec![bits(instant::gstime(instant::epoch_days(n[0]) + 2433281.5))],
+            "since" if inside(n[0]) && inside(n[1]) => vec![0, n[0] - n[1]],
+            "since" => vec![6, 0],
+            "days" => at(instant::epoch_days),
+            "jd" => at(|t| instant::epoch_days(t) + 2433281.5),
+            "gst" => at(|t| instant::gstime(instant::epoch_days(t) + 2433281.5)),
             other => panic!("no operation {other}"),
         };
         assert_eq!(results, n[n.len() - results.len()..], "{line}");
         count += 1;
     }
     assert!(count >= 600, "{count}");
+}
+
+#[test]
+fn large_angles() {
+    let text = String::from_utf8(python(&["tests/large_angles.py"])).unwrap();
+    for line in text.lines() {
+        let words: Vec<&str> = line.split(' ').collect();
+        let number = |word: &str| f64::from_bits(u64::from_str_radix(word, 16).unwrap());
+        let (sine, cosine) = Document::sin_cos(number(words[1]));
+        let result = if words[0] == "sin" { sine } else { cosine };
+        assert_eq!(result.to_bits(), number(words[2]).to_bits(), "{line}");
+    }
+    // The crate's input is the published vectors and then these.
+    let port = Path::new(env!("CARGO_MANIFEST_DIR"));
+    let stored = std::fs::read_to_string(port.join("../crates/elementary_vectors/stdin")).unwrap();
+    let published = std::fs::read_to_string(port.join("vectors/elementary.txt")).unwrap();
+    assert_eq!(stored, published + &text);
 }

@@ -40,8 +40,12 @@ pub outside : (t : ℕ) → 3155760000000000 ≤ t → inCalendar t ≡ false
 unfolding inCalendar
 outside t h = subst (λ (z : ℕ). ltb t z ≡ false) (sym calendar-end) (le-ltb t 3155760000000000 h)
 
+pub below : (t : ℕ) → inCalendar t ≡ true → t < 3155760000000000
+unfolding inCalendar
+below t h = subst (λ (z : ℕ). t < z) calendar-end (ltb-true t calendarEnd h)
+
 -- two tests that both pass
-both : {P Q : Type 0} (a b : Bool) → (a ≡ true → P) → (b ≡ true → Q) → (a && b) ≡ true → P × Q
+pub both : {P Q : Type 0} (a b : Bool) → (a ≡ true → P) → (b ≡ true → Q) → (a && b) ≡ true → P × Q
 both true true p q h = (p refl, q refl)
 both true false p q h = absurd (false≢true h)
 both false true p q h = absurd (false≢true h)

@@ -2,6 +2,7 @@
 pub mod Signed
 pub mod Calendar
 pub mod Move
+pub mod Difference
 pub mod Once
 pub mod Long
 pub mod Grow

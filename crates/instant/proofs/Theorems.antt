@@ -3,11 +3,17 @@ use mathlib.Core.Path.{_≡_, refl, sym, ap, _∙_, subst}
 use mathlib.Core.Bool.{Bool, true, cond}
 use Prim.Native.Nat.{ℕ, suc, _+_, _-_, _*_, _/_, _%_, _≤_, _<_}
 use native.Mathlib.Omega.{arith}
+use lib.IntN.{ℤ, pos, _+ℤ_, +ℤ-invr}
 use Rattle.instant.specs.Calendar.{dayMicros, unitMicros, daysIn, daysBefore, calendarEnd, yearInRange, dayInRange, together, epochMicros, epochOf, yearsSince, dateOf}
+use Rattle.instant.specs.Move.{moveOf}
+use Rattle.instant.specs.Since.{sinceOf}
+use Rattle.instant.specs.Claims.{SinceThenMove, MoveThenSince, SinceItself}
 use Rattle.instant.specs.declared.Dated.{Dated}
 use Rattle.instant.specs.declared.Dated.the-variants as dated
 use Rattle.instant.specs.declared.Epoch.the-variants as epoch
 use Rattle.instant.proofs.Calendar.{calendar-end, days-before, year-bounds, day-bounds, year-begun, year-not-over, inside}
+use Rattle.instant.proofs.Move.{move-made}
+use Rattle.instant.proofs.Difference.{reached-sum, sum-since, since-sum, since-given}
 
 -- The calendar ends at 3,155,760,000,000,000.
 pub end-of-calendar : calendarEnd ≡ 3155760000000000
@@ -100,3 +106,21 @@ together-apart t year day micros p =
     let g : t < 3155760000000000 = (let x = days-before (suc k) in omega arith) in
     let e : days - daysBefore k + 1 ≡ day = omega arith in
     simp (inside t g, sym n, r, y, e)
+
+-- ---- time since an epoch, and moves
+pub since-then-move : SinceThenMove
+unfolding moveOf
+since-then-move t epoch z h l =
+    let g = since-given t epoch z h in
+    let s : pos epoch +ℤ z ≡ pos t = ap (λ (y : ℤ). pos epoch +ℤ y) (sym (g .2)) ∙ sum-since t epoch in
+    simp (l, g .1, reached-sum epoch z t s (g .0))
+
+pub move-then-since : MoveThenSince
+unfolding sinceOf
+move-then-since t epoch z h =
+    let m = move-made epoch z t h in
+    simp (m .0, m .1, since-sum t epoch z (m .2))
+
+pub since-itself : SinceItself
+unfolding sinceOf
+since-itself t h = simp (h, +ℤ-invr)

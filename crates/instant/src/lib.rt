@@ -6,9 +6,10 @@ ghost use mathlib.Core.Bool.{false};
 ghost use lib.Ieee.{binary64, round};
 ghost use Rattle.instant.specs.Division.{Divided};
 ghost use Rattle.instant.specs.Quantity.{minutesOf, decimalOf, poweredOf, scaledOf, radiansOf};
-ghost use Rattle.instant.specs.Calendar.{daysBefore, lastDay, dayInRange, epochOf, dateOf};
+ghost use Rattle.instant.specs.Calendar.{inCalendar, daysBefore, lastDay, dayInRange, epochOf, dateOf};
 ghost use Rattle.instant.specs.Move.{landed, moveOf};
-ghost use Rattle.instant.specs.Greenwich.{epochDaysOf, julianOf, siderealOf, quadrant, gstimeOf, greenwichOf};
+ghost use Rattle.instant.specs.Since.{sinceOf};
+ghost use Rattle.instant.specs.Greenwich.{epochDaysOf, julianOf, siderealOf, quadrant, gstimeOf, epochDaysAt, julianAt, greenwichAt};
 
 // A signed count of microseconds.
 pub struct Microseconds(pub i64);
@@ -221,6 +222,13 @@ pub enum Dated {
     Outside,
 }
 
+// Whether an instant lies before 2057 January 1, 0h: the one place that says so.
+fn in_calendar(t: u64) -> bool
+    ensures { λ r. ⌜ r ≡ inCalendar t ⌝ }
+{
+    t < 3155760000000000
+}
+
 // Days from 1957 January 1 to January 1 of the year that many years later.
 fn days_before(years: u64) -> u64
     requires { ⌜ years ≤ 100000000000 ⌝ }
@@ -267,7 +275,7 @@ pub fn date_of(t: Instant) -> Dated
     ensures { λ r. ⌜ r ≡ dateOf (t .0) ⌝ }
 {
     let x = t.0;
-    if x < 3155760000000000 {
+    if in_calendar(x) {
         let days = x / 86400000000;
         let k = (4 * days + 3) / 1461;
         let before = days_before(k);
@@ -294,7 +302,7 @@ pub enum Moved {
 fn land(t: u64) -> Moved
     ensures { λ r. ⌜ r ≡ landed t ⌝ }
 {
-    if t < 3155760000000000 {
+    if in_calendar(t) {
         Moved::To(Instant(t))
     } else {
         Moved::Outside
@@ -310,7 +318,7 @@ pub fn move_by(t: Instant, span: Microseconds) -> Moved
     if d > 315532800000000 {
         return Moved::TooFar;
     }
-    if x >= 3155760000000000 {
+    if !in_calendar(x) {
         return Moved::Outside;
     }
     if s < 0 {
@@ -322,19 +330,72 @@ pub fn move_by(t: Instant, span: Microseconds) -> Moved
     land(x + d)
 }
 
-// ---- Days and the Greenwich angle.
+// ---- Time since an epoch.
 
-// Days since 1949 December 31, 0h, as 002's `epoch`.
-pub fn epoch_days(t: Instant) -> Days
-    ensures { λ r. ⌜ r .0 ≡ epochDaysOf (t .0) ⌝ }
-{
-    Days(quotient(t.0, 86400000000) + 2558.0)
+pub enum Elapsed {
+    Is(Microseconds),
+    // Refusal 6: an instant given is outside 1957-2056.
+    Outside,
 }
 
-pub fn julian_date(t: Instant) -> Days
-    ensures { λ r. ⌜ r .0 ≡ julianOf (t .0) ⌝ }
+// How far t lies from an epoch: negative where it comes before.
+pub fn since(t: Instant, epoch: Instant) -> Elapsed
+    ensures { λ r. ⌜ r ≡ sinceOf (t .0) (epoch .0) ⌝ }
 {
-    Days(epoch_days(t).0 + 2433281.5)
+    let x = t.0;
+    let e = epoch.0;
+    if !(in_calendar(x) & in_calendar(e)) {
+        return Elapsed::Outside;
+    }
+    Elapsed::Is(Microseconds(x as i64 - e as i64))
+}
+
+// ---- Days and the Greenwich angle.
+
+// A count of days at an instant.
+pub enum DayCount {
+    Is(Days),
+    // Refusal 6: the instant is outside 1957-2056.
+    Outside,
+}
+
+pub enum Angle {
+    Is(Radians),
+    // Refusal 6: the instant is outside 1957-2056.
+    Outside,
+}
+
+fn days_at(t: u64) -> f64
+    ensures { λ r. ⌜ r ≡ epochDaysOf t ⌝ }
+{
+    quotient(t, 86400000000) + 2558.0
+}
+
+// Days since 1949 December 31, 0h, as 002's `epoch`.
+pub fn epoch_days(t: Instant) -> DayCount
+    ensures { λ r. ⌜ r ≡ epochDaysAt (t .0) ⌝ }
+{
+    let x = t.0;
+    if in_calendar(x) {
+        return DayCount::Is(Days(days_at(x)));
+    }
+    DayCount::Outside
+}
+
+fn julian_at(t: u64) -> f64
+    ensures { λ r. ⌜ r ≡ julianOf t ⌝ }
+{
+    days_at(t) + 2433281.5
+}
+
+pub fn julian_date(t: Instant) -> DayCount
+    ensures { λ r. ⌜ r ≡ julianAt (t .0) ⌝ }
+{
+    let x = t.0;
+    if in_calendar(x) {
+        return DayCount::Is(Days(julian_at(x)));
+    }
+    DayCount::Outside
 }
 
 fn sidereal_seconds(tut1: f64) -> f64
@@ -356,18 +417,21 @@ fn into_turn(x: f64) -> f64
 }
 
 // Greenwich sidereal time at a Julian date, 0 to two pi.
-pub fn gstime(jdut1: Days) -> Radians
-    ensures { λ r. ⌜ r .0 ≡ gstimeOf (jdut1 .0) ⌝ }
+fn gstime(jdut1: f64) -> f64
+    ensures { λ r. ⌜ r ≡ gstimeOf jdut1 ⌝ }
 {
-    let tut1 = (jdut1.0 - 2451545.0) / 36525.0;
+    let tut1 = (jdut1 - 2451545.0) / 36525.0;
     let temp = sidereal_seconds(tut1);
-    let turn = elementary::rem_turn(temp * 0.017453292519943295 / 240.0);
-    Radians(into_turn(turn))
+    into_turn(elementary::rem_turn(temp * 0.017453292519943295 / 240.0))
 }
 
 // The Greenwich angle at an instant, UT1 taken as UTC.
-pub fn greenwich(t: Instant) -> Radians
-    ensures { λ r. ⌜ r .0 ≡ greenwichOf (t .0) ⌝ }
+pub fn greenwich(t: Instant) -> Angle
+    ensures { λ r. ⌜ r ≡ greenwichAt (t .0) ⌝ }
 {
-    gstime(julian_date(t))
+    let x = t.0;
+    if in_calendar(x) {
+        return Angle::Is(Radians(gstime(julian_at(x))));
+    }
+    Angle::Outside
 }

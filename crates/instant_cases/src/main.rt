@@ -2,7 +2,10 @@
 // operation's name and numbers of sixteen hexadecimal digits, arguments first, then the results that
 // tests/instant_cases.py expects.
 ghost use Prim.Native.Nat.{_≤_, _<_};
+use instant::Angle;
 use instant::Dated;
+use instant::DayCount;
+use instant::Elapsed;
 use instant::Epoch;
 use instant::Instant;
 use instant::Microseconds;
@@ -26,9 +29,9 @@ struct Line {
 // How many lines of each operation were compared, how many differ, and the number of the first.
 struct Tallies {
     lines: u64,
-    compared: [u64; 7],
-    differ: [u64; 7],
-    first: [u64; 7],
+    compared: [u64; 9],
+    differ: [u64; 9],
+    first: [u64; 9],
 }
 
 struct Run {
@@ -160,7 +163,7 @@ fn epoch_right(year: u64, day: u64, known: u64, instant: u64) -> bool {
 fn split_right(instant: u64, year: u64, day: u64, micros: u64) -> bool {
     match instant::date_of(Instant(instant)) {
         Dated::On(x) => (x.year == year) & (x.day == day) & (x.micros == micros),
-        Dated::Outside => false,
+        Dated::Outside => (year == 0) & (day == 0) & (micros == 0),
     }
 }
 
@@ -172,45 +175,77 @@ fn move_right(instant: u64, span: u64, refusal: u64, moved: u64) -> bool {
     }
 }
 
-// The place of an operation among those counted, and the last place for a name that is none.
-fn place(name: u64) -> usize
-    ensures { λ r. ⌜ r < 7 ⌝ }
-{
-    match name {
-        // epoch, split, move, minutes, jd, gst
-        0x65706f6368 => 0,
-        0x73706c6974 => 1,
-        0x6d6f7665 => 2,
-        0x6d696e75746573 => 3,
-        0x6a64 => 4,
-        0x677374 => 5,
-        _ => 6,
+fn since_right(instant: u64, epoch: u64, refusal: u64, micros: u64) -> bool {
+    match instant::since(Instant(instant), Instant(epoch)) {
+        Elapsed::Is(t) => (refusal == 0) & (signed(micros) == t.0),
+        Elapsed::Outside => (refusal == 6) & (micros == 0),
     }
 }
 
-// Whether the library gives the results of a whole line.
+fn days_right(days: DayCount, refusal: u64, bits: u64) -> bool {
+    match days {
+        DayCount::Is(x) => (refusal == 0) & same(x.0, bits),
+        DayCount::Outside => (refusal == 6) & (bits == 0),
+    }
+}
+
+fn angle_right(angle: Angle, refusal: u64, bits: u64) -> bool {
+    match angle {
+        Angle::Is(x) => (refusal == 0) & same(x.0, bits),
+        Angle::Outside => (refusal == 6) & (bits == 0),
+    }
+}
+
+// The place of an operation among those counted, and the last place for a name that is none.
+fn place(name: u64) -> usize
+    ensures { λ r. ⌜ r < 9 ⌝ }
+{
+    match name {
+        // epoch, split, move, since, minutes, days, jd, gst
+        0x65706f6368 => 0,
+        0x73706c6974 => 1,
+        0x6d6f7665 => 2,
+        0x73696e6365 => 3,
+        0x6d696e75746573 => 4,
+        0x64617973 => 5,
+        0x6a64 => 6,
+        0x677374 => 7,
+        _ => 8,
+    }
+}
+
+// Whether the library gives the results of a line with four numbers.
+fn four_right(op: usize, a: u64, b: u64, c: u64, d: u64) -> bool {
+    match op {
+        0 => epoch_right(a, b, c, d),
+        1 => split_right(a, b, c, d),
+        2 => move_right(a, b, c, d),
+        3 => since_right(a, b, c, d),
+        _ => false,
+    }
+}
+
+// Of a line with an instant, a refusal and a number.
+fn three_right(op: usize, instant: u64, refusal: u64, bits: u64) -> bool {
+    let t = Instant(instant);
+    match op {
+        5 => days_right(instant::epoch_days(t), refusal, bits),
+        6 => days_right(instant::julian_date(t), refusal, bits),
+        7 => angle_right(instant::greenwich(t), refusal, bits),
+        _ => false,
+    }
+}
+
+// Of any whole line.
 fn answer_right(op: usize, l: Line) -> bool {
     if l.numbers == 4 {
-        if op == 0 {
-            return epoch_right(l.a, l.b, l.c, l.d);
-        }
-        if op == 1 {
-            return split_right(l.a, l.b, l.c, l.d);
-        }
-        if op == 2 {
-            return move_right(l.a, l.b, l.c, l.d);
-        }
+        return four_right(op, l.a, l.b, l.c, l.d);
     }
-    if l.numbers == 2 {
-        if op == 3 {
-            return same(instant::to_minutes(Microseconds(signed(l.c))).0, l.d);
-        }
-        if op == 4 {
-            return same(instant::julian_date(Instant(l.c)).0, l.d);
-        }
-        if op == 5 {
-            return same(instant::greenwich(Instant(l.c)).0, l.d);
-        }
+    if l.numbers == 3 {
+        return three_right(op, l.b, l.c, l.d);
+    }
+    if (l.numbers == 2) & (op == 4) {
+        return same(instant::to_minutes(Microseconds(signed(l.c))).0, l.d);
     }
     false
 }
@@ -325,18 +360,20 @@ fn print_tallies(t: Tallies) {
     print_tally(b"epoch: ", n[0], d[0], f[0]);
     print_tally(b"split: ", n[1], d[1], f[1]);
     print_tally(b"move: ", n[2], d[2], f[2]);
-    print_tally(b"minutes: ", n[3], d[3], f[3]);
-    print_tally(b"jd: ", n[4], d[4], f[4]);
-    print_tally(b"gst: ", n[5], d[5], f[5]);
-    print_tally(b"unreadable: ", n[6], d[6], f[6]);
+    print_tally(b"since: ", n[3], d[3], f[3]);
+    print_tally(b"minutes: ", n[4], d[4], f[4]);
+    print_tally(b"days: ", n[5], d[5], f[5]);
+    print_tally(b"jd: ", n[6], d[6], f[6]);
+    print_tally(b"gst: ", n[7], d[7], f[7]);
+    print_tally(b"unreadable: ", n[8], d[8], f[8]);
 }
 
 fn main() {
     let tallies = Tallies {
         lines: 0,
-        compared: [0; 7],
-        differ: [0; 7],
-        first: [0; 7],
+        compared: [0; 9],
+        differ: [0; 9],
+        first: [0; 9],
     };
     let run = read_all(Run {
         line: no_line(),

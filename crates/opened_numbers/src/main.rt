@@ -2,7 +2,9 @@
 // patterns, under the names and in the order of bench/src/bin/open_numbers.rs, the independent port
 // whose output is the expected one. The input has 140 bytes a pair: two lines of 69, each ended by a
 // newline.
+use instant::Angle;
 use instant::Epoch;
+use instant::Instant;
 use libc::STDIN_FILENO;
 use libc::STDOUT_FILENO;
 use opening::opening::Opening;
@@ -122,10 +124,17 @@ fn put_refused(out: &mut [u8], at: usize, number: u64) -> usize {
 }
 
 // The Greenwich angle, which a near-Earth satellite does not keep.
+fn gsto_at(t: Instant) -> f64 {
+    match instant::greenwich(t) {
+        Angle::Is(gsto) => gsto.0,
+        Angle::Outside => 0.0,
+    }
+}
+
 fn gsto_of(r: Record) -> f64 {
     let e = tle::epoch(r);
     match e {
-        Epoch::At(t) => instant::greenwich(t).0,
+        Epoch::At(t) => gsto_at(t),
         Epoch::Outside => 0.0,
     }
 }

@@ -1,12 +1,16 @@
-use mathlib.Core.Path.{ap}
+use mathlib.Core.Path.{sym}
 use borrow.Author.Needs.{needs}
-use lib.Ieee.{Float, round, units, odd, size, span, climb, ofBits}
-use lib.Count.{trailingZeros}
-use Rattle.elementary.specs.Notation.{_⊕_, dec}
-use Rattle.instant.specs.Greenwich.{epochDaysOf}
+use Rattle.instant.specs.Greenwich.{epochDaysAt}
 use Rattle.instant.proofs.epoch_days.Statement.{statement}
 use Rattle.instant.proofs.epoch_days.Tie as tie
 
+returns : tie.Need-returns
+unfolding epochDaysAt
+returns c = simp (sym (c .before .before .in-calendar .ensures), c .before .if1 .taken, c .days-at .ensures)
+
+returns-2 : tie.Need-returns-2
+unfolding epochDaysAt
+returns-2 c = simp (sym (c .before .in-calendar .ensures), c .if1 .left)
+
 pub epoch-days-spec : {M : Type 1} → statement M
-unfolding epochDaysOf round units odd size span climb trailingZeros ofBits
-epoch-days-spec = tie.close (tie.spec (λ c κs. search needs) (λ c. ap (λ (x : Float). x ⊕ dec 2558 0) (c .quotient .ensures)))
+epoch-days-spec = tie.close (tie.spec (λ c κs. search needs) (λ c κs. search needs) returns returns-2)

@@ -1,12 +1,16 @@
-use mathlib.Core.Path.{ap}
+use mathlib.Core.Path.{sym}
 use borrow.Author.Needs.{needs}
-use lib.Ieee.{Float, round, units, odd, size, span, climb, ofBits}
-use lib.Count.{trailingZeros}
-use Rattle.elementary.specs.Notation.{_⊕_, dec}
-use Rattle.instant.specs.Greenwich.{julianOf}
+use Rattle.instant.specs.Greenwich.{julianAt}
 use Rattle.instant.proofs.julian_date.Statement.{statement}
 use Rattle.instant.proofs.julian_date.Tie as tie
 
+returns : tie.Need-returns
+unfolding julianAt
+returns c = simp (sym (c .before .before .in-calendar .ensures), c .before .if1 .taken, c .julian-at .ensures)
+
+returns-2 : tie.Need-returns-2
+unfolding julianAt
+returns-2 c = simp (sym (c .before .in-calendar .ensures), c .if1 .left)
+
 pub julian-date-spec : {M : Type 1} → statement M
-unfolding julianOf round units odd size span climb trailingZeros ofBits
-julian-date-spec = tie.close (tie.spec (λ c κs. search needs) (λ c. ap (λ (x : Float). x ⊕ dec 24332815 1) (c .before .epoch-days .ensures)))
+julian-date-spec = tie.close (tie.spec (λ c κs. search needs) (λ c κs. search needs) returns returns-2)
