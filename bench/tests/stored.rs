@@ -56,11 +56,9 @@ fn published_rows_and_replay() {
     fs::remove_dir_all(folder).unwrap();
 }
 
-/// What elementary_vectors reads is what the port is held to, and what print_pair reads and prints is
-/// document 01's example by the port.
+/// What print_pair reads and prints is document 01's example, by the port.
 #[test]
-fn vectors_and_example() {
-    assert!(stored("bench/vectors/elementary.txt") == stored("crates/elementary_vectors/stdin"));
+fn print_pair() {
     let input = stored("crates/print_pair/stdin");
     let lines: Vec<&[u8]> = input.split(|&byte| byte == b'\n').collect();
     assert_eq!(tle::print(lines[0], lines[1]).as_bytes(), stored("crates/print_pair/stdout"));
