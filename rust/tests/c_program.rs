@@ -6,8 +6,7 @@ use std::process::{Command, Output};
 
 const WARNINGS: [&str; 4] = ["-Wall", "-Wextra", "-Werror", "-pedantic"];
 
-/// What a program is linked with.
-const LINKED: [&str; 2] = ["target/staticlib/libsaddlekerf.a", "-lm"];
+const ARCHIVE: &str = "target/staticlib/libsaddlekerf.a";
 
 const ROWS: &str = "bench/vectors/published-rows.txt";
 
@@ -38,7 +37,7 @@ fn compile(program: &Path, arguments: &[&str]) -> Command {
         .arg("-o")
         .arg(program)
         .args(arguments)
-        .args(LINKED);
+        .arg(ARCHIVE);
     command
 }
 
