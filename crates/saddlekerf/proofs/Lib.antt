@@ -5,3 +5,4 @@ mod Loads
 mod Posts
 pub mod Parts
 pub mod Sequences
+pub mod Records

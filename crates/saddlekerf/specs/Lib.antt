@@ -1,4 +1,6 @@
+pub mod Version
 pub mod Answer
 pub mod Pairs
+pub mod Records
 pub mod Requests
 pub mod Sequences
