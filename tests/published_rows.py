@@ -4,8 +4,8 @@
     published_rows.py [FOLDER]
 
 The expected output comes from that file and the rules of document 01, not from
-the programs. The files go into FOLDER/published_rows and FOLDER/replay, FOLDER
-being crates where none is named. bench/tests/stored.rs makes them anew.
+the programs. The files go into crates/ under FOLDER, or of this repository where
+none is named. bench/tests/stored.rs makes them anew.
 """
 
 import sys
@@ -80,16 +80,16 @@ def replayed(found):
 
 
 def write(folder, asked, answered, last=""):
-    folder.mkdir(exist_ok=True)
+    folder.mkdir(parents=True, exist_ok=True)
     folder.joinpath("stdin").write_text("\n".join(asked) + last)
     folder.joinpath("stdout").write_text("\n".join(answered) + "\n")
 
 
 def main():
-    target = Path(sys.argv[1]) if len(sys.argv) > 1 else ROOT / "crates"
+    target = Path(sys.argv[1]) if len(sys.argv) > 1 else ROOT
     found = pairs((ROOT / "bench/vectors/published-rows.txt").read_text())
-    write(target / "published_rows", *published(found), "\n")
-    write(target / "replay", *replayed(found))
+    write(target / "crates/published_rows", *published(found), "\n")
+    write(target / "crates/replay", *replayed(found))
 
 
 main()

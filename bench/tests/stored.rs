@@ -50,8 +50,11 @@ fn published_rows_and_replay() {
     let folder = std::env::temp_dir().join(format!("published-rows-{}", std::process::id()));
     fs::create_dir_all(&folder).unwrap();
     output(Command::new("python3").arg(root().join("tests/published_rows.py")).arg(&folder));
-    for file in ["published_rows/stdin", "published_rows/stdout", "replay/stdin", "replay/stdout"] {
-        assert!(fs::read(folder.join(file)).unwrap() == stored(&format!("crates/{file}")), "{file}");
+    for crate_folder in ["crates/published_rows", "crates/replay"] {
+        for file in ["stdin", "stdout"] {
+            let path = format!("{crate_folder}/{file}");
+            assert!(fs::read(folder.join(&path)).unwrap() == stored(&path), "{path}");
+        }
     }
     fs::remove_dir_all(folder).unwrap();
 }
