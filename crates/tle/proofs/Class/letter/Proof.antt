@@ -1,7 +1,7 @@
-use Rattle.tle_writer.specs.Field.{letter}
 use borrow.Author.Needs.{needs}
-use Rattle.tle_writer.proofs.fields.letter_of.Statement.{statement}
-use Rattle.tle_writer.proofs.fields.letter_of.Tie as tie
+use Rattle.tle.specs.Read.{letter}
+use Rattle.tle.proofs.Class.letter.Statement.{statement}
+use Rattle.tle.proofs.Class.letter.Tie as tie
 
 returns : tie.Need-returns
 unfolding letter
@@ -15,6 +15,6 @@ returns-3 : tie.Need-returns-3
 unfolding letter
 returns-3 c = cc
 
-pub letter-of-spec : {M : Type 1} → statement M
-letter-of-spec = tie.close (tie.spec
+pub letter-spec : {M : Type 1} → statement M
+letter-spec = tie.close (tie.spec
     (λ c. search needs) (λ c. search needs) (λ c. search needs) returns returns-2 returns-3)

@@ -3,9 +3,9 @@ use mathlib.Core.Bool.{true, false}
 use native.Mathlib.Omega.{arith}
 use mir.Syntax.{w64}
 use mir.ValLaws.{toZ-ofZ}
-use Rattle.instant.proofs.Signed.{back, negative, flipped, positive, small, some}
-use Rattle.instant.proofs.magnitude.Statement.{statement}
-use Rattle.instant.proofs.magnitude.Tie as tie
+use Rattle.integers.proofs.Signed.{back, negative, flipped, positive, small, some}
+use Rattle.integers.proofs.magnitude.Statement.{statement}
+use Rattle.integers.proofs.magnitude.Tie as tie
 
 -- x is negative in the first arm, and not in the second
 neg : (c : tie.Then1) → back (c .before .args .x) ≡ true
