@@ -45,10 +45,11 @@
  * FLOATING-POINT ENVIRONMENT
  *
  *   The proofs speak of doubles rounded to nearest, ties to even, with subnormal numbers and without
- *   traps: the state in which every thread starts. In a thread that changed it (fesetround,
- *   feenableexcept, flush-to-zero, denormals-are-zero, a program linked with -ffast-math) other bits
- *   come out, and where a trap is unmasked, a lawful line can end the process: lines that divide
- *   0 by 0 on the way to refusal 8 are lawful. saddlekerf_environment_is_default tells.
+ *   traps: the state in which a program starts, and which threads take over from their creator. Where
+ *   it was changed (fesetround, feenableexcept, flush-to-zero, denormals-are-zero, a program linked
+ *   with -ffast-math) other bits come out, and where a trap is unmasked, a lawful line can end the
+ *   process: lines that divide 0 by 0 on the way to refusal 8 are lawful.
+ *   saddlekerf_environment_is_default tells.
  *
  * TIME AND STACK
  *

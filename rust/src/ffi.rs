@@ -127,7 +127,7 @@ pub fn version() -> u64 {
 }
 
 /// The bits of MXCSR that change results or trap: denormals-are-zero (6), the six masks (7-12),
-/// rounding (13-14), flush-to-zero (15); and what they are at the start of a thread.
+/// rounding (13-14), flush-to-zero (15); and what they are where a program starts.
 pub const MXCSR_CONTROL: u32 = 0xffc0;
 pub const MXCSR_DEFAULT: u32 = 0x1f80;
 

@@ -18,9 +18,9 @@ pub struct Exponential {
 /// ```
 /// use saddlekerf::{Record, Refusal};
 ///
+/// # fn main() -> Result<(), Refusal> {
 /// let line1 = b"1 00005U 58002B   00179.78495062  .00000023  00000-0  28098-4 0  4753";
 /// let line2 = b"2 00005  34.2682 348.7242 1859667 331.7664  19.3264 10.82419157413667";
-/// # fn main() -> Result<(), Refusal> {
 /// let mut record = Record::read(line1, line2)?;
 /// assert_eq!((record.inclination, record.bstar.mantissa), (34_2682, 28098));
 /// assert_eq!(record.write()?, [*line1, *line2]);
