@@ -40,6 +40,29 @@ fn written(script: &str, program: &str) {
     fs::remove_dir_all(folder).unwrap();
 }
 
+/// Inputs and outputs of both programs, made from the published rows, which vectors.rs holds to the port.
+#[test]
+fn published_rows_and_replay() {
+    let folder = std::env::temp_dir().join(format!("published-rows-{}", std::process::id()));
+    fs::create_dir_all(&folder).unwrap();
+    output(Command::new("python3").arg(root().join("tests/published_rows.py")).arg(&folder));
+    for crate_folder in ["crates/published_rows", "crates/replay"] {
+        for file in ["stdin", "stdout"] {
+            let path = format!("{crate_folder}/{file}");
+            assert!(fs::read(folder.join(&path)).unwrap() == stored(&path), "{path}");
+        }
+    }
+    fs::remove_dir_all(folder).unwrap();
+}
+
+/// What print_pair reads and prints is document 01's example, by the port.
+#[test]
+fn print_pair() {
+    let input = stored("crates/print_pair/stdin");
+    let lines: Vec<&[u8]> = input.split(|&byte| byte == b'\n').collect();
+    assert_eq!(tle::print(lines[0], lines[1]).as_bytes(), stored("crates/print_pair/stdout"));
+}
+
 #[test]
 fn read_pairs() {
     written("tests/tle_pairs.py", "crates/read_pairs");
