@@ -109,12 +109,12 @@ fn published_records_written() {
 #[test]
 fn positions_handed_in() {
     let (port, mut tally) = (Port::<Document>::new(), Tally::default());
-    for index in 0..1400 {
+    for index in 0..560 {
         handed_case(SEED, index, (&port, &Proved), &mut tally).unwrap_or_else(|found| panic!("{found}"));
     }
     println!("{tally}");
     for name in ["handed: positions", "row: refusal  0", "row: refusal 15", "list: answered", "strides"] {
-        assert!(tally.of(name) >= 100, "{name}: {}", tally.of(name));
+        assert!(tally.of(name) >= 20, "{name}: {}", tally.of(name));
     }
 }
 
