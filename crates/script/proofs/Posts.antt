@@ -20,7 +20,7 @@ use Rattle.requests.specs.Lists.{refusalsOf, statesOf, roundsOf, over}
 use Rattle.requests.specs.Demand3.{Request, Outcome, outcome, rowTimes, run, times, sum, reported, ranged, rowAlone, stridesAlone, NoMore, Demand3}
 use Rattle.requests.proofs.Demand3.{demand-3}
 use Rattle.script.specs.declared.Ran.{Ran}
-use Rattle.script.specs.declared.Ran.the-variants.{Done, Short, Closed}
+use Rattle.script.specs.declared.Ran.the-variants.{Done, Short, Unread, Refused}
 use Rattle.script.specs.Script.{needed, script, roomFor, rowsOf, Left, Demanded, ranOf, Post}
 
 absurd : {B : Type 0} → ⊥ → B
@@ -71,12 +71,13 @@ demanded s rs a b c d a′ b′ c′ d′ p l =
       noMore = subst (λ z. NoMore z (map (λ r. sum (map (stridesAlone s) (ranged (rowTimes r)))) rs)) (sym front) (p .noMore);
     }
 
--- ── the three answers ──
+-- ── the answers ──
 
 abbrev NotDone : Ran → Type 0
 NotDone Done = ⊥
 NotDone Short = Unit {0}
-NotDone Closed = Unit {0}
+NotDone (Unread why) = Unit {0}
+NotDone (Refused why) = Unit {0}
 
 abbrev satelliteOr : Satellite → PairOpening → Satellite
 satelliteOr s (pair.Opened t) = t
@@ -108,8 +109,8 @@ module _ (line1 line2 : List ℕ) (ns : List ℕ) (ts : List ℤ) (a : List ℕ)
   answer-of : (r : Ran) (o : PairOpening) → r ≡ ranOf true o → Room ≡ true → openPairOf line1 line2 ≡ o → r ≡ ranOf Room (openPairOf line1 line2)
   answer-of r o h e k = h ∙ ap (ranOf true) (sym k) ∙ ap (λ z. ranOf z (openPairOf line1 line2)) (sym e)
 
-  pub post-closed : (o : PairOpening) → Room ≡ true → openPairOf line1 line2 ≡ o → Closed ≡ ranOf true o → Post line1 line2 ns ts a b c d Closed a b c d
-  post-closed o e k h = unrun-post Closed tt (answer-of Closed o h e k)
+  pub post-closed : (r : Ran) (o : PairOpening) → NotDone r → Room ≡ true → openPairOf line1 line2 ≡ o → r ≡ ranOf true o → Post line1 line2 ns ts a b c d r a b c d
+  post-closed r o n e k h = unrun-post r n (answer-of r o h e k)
 
   pub post-done : (s : Satellite) (a′ : List ℕ) (b′ : List Float) (c′ : List ℕ) (d′ : List ℕ) → Room ≡ true → openPairOf line1 line2 ≡ pair.Opened s
       → Left s (script ns ts (length a) (length b) (length c)) a b c d a′ b′ c′ d′ → Post line1 line2 ns ts a b c d Done a′ b′ c′ d′

@@ -17,12 +17,27 @@ use requests::request;
 use requests::request_list;
 use sgp4::Row;
 
-// What became of a script: run; not begun, for want of times or of room; or not begun, since the
-// lines do not open.
+// What became of a script: run; not begun, for want of times or of room (17); or not begun, since the
+// lines are refused by reading (1 to 6) or by opening (7 and 8).
 pub enum Ran {
     Done,
     Short,
-    Closed,
+    Unread(tle::Refusal),
+    Refused(opening::opening::Refusal),
+}
+
+impl Ran {
+    // Document 01's number of the answer, 0 where the script was run.
+    pub fn number(self) -> u64
+        ensures { λ n. ⌜ n ≡ S.ranNumber self ⌝ }
+    {
+        match self {
+            Ran::Done => 0,
+            Ran::Short => 17,
+            Ran::Unread(why) => why.number(),
+            Ran::Refused(why) => why.number(),
+        }
+    }
 }
 
 struct Stepped {
@@ -250,7 +265,7 @@ pub fn run_script(
             run_all(s, lengths, times, refusals, states, rounds, strides);
             Ran::Done
         }
-        PairOpening::Unread(_) => Ran::Closed,
-        PairOpening::Refused(_) => Ran::Closed,
+        PairOpening::Unread(why) => Ran::Unread(why),
+        PairOpening::Refused(why) => Ran::Refused(why),
     }
 }
