@@ -4,7 +4,7 @@ use mathlib.Core.Path.{_≡_}
 use mathlib.Core.Bool.{Bool, true, false, _&&_}
 use mathlib.Core.List.{List, [], _∷_, _++_, map}
 use lib.ListN.{length, take, drop, getD}
-use lib.Dec.{leb}
+use lib.Dec.{leb, ltb}
 use lib.IntN.{ℤ, pos}
 use lib.Ieee.{Float}
 use Rattle.resonance.specs.declared.place.Side.{Side}
@@ -45,9 +45,21 @@ script (n ∷ ns) ts a b c =
     let k = length (rowTimes r) in
     r ∷ script ns (drop (taken n) ts) (a - k) (b - 6 * k) (c - k)
 
--- whether the times suffice, and the rooms for a row of each time and for the strides of each request
+-- whether a room of so many rows has one for each single request, where every list before it fills its own; a list for which
+-- too few are left is refused with 17, and the script goes on
+unfoldable pub roomy : List ℕ → ℕ → Bool
+roomy [] room = true
+roomy (zero ∷ ns) room = ltb 0 room && roomy ns (room - 1)
+roomy (suc n ∷ ns) room = roomy ns (room - n)
+
+-- whether the times suffice, and the rooms for the row of each single request and for the strides of each request
 unfoldable pub roomFor : List ℕ → ℕ → ℕ → ℕ → ℕ → ℕ → Bool
-roomFor ns t a b c d = leb (needed ns) t && leb (needed ns) a && leb (needed ns) (b / 6) && leb (needed ns) c && leb (length ns) d
+roomFor ns t a b c d = leb (needed ns) t && roomy ns a && roomy ns (b / 6) && roomy ns c && leb (length ns) d
+
+-- the rows that a request must have room for
+abbrev pub due : ℕ → ℕ
+due zero = 1
+due (suc n) = 0
 
 -- ── what is left in memory ──
 
