@@ -1,13 +1,14 @@
 -- Numbers and record: there and back.
-use Prim.Native.Nat.{ℕ, _+_, _<_, _≤_, _^_}
+use Prim.Native.Nat.{ℕ, zero, suc, _+_, _<_, _≤_, _^_}
 use mathlib.Core.Path.{_≡_, refl, sym, ap, _∙_}
 use mathlib.Core.Bool.{Bool, true, false, cond, _&&_, _||_}
 use mathlib.Core.List.{List, [], _∷_, _++_}
 use native.Mathlib.Omega.{arith}
-use borrow.Author.Tests.{lt-ltb, le-ltb, ltb-true, eqb-true, ne-eqb}
+use borrow.Author.Tests.{lt-ltb, le-ltb, ltb-true, ltb-false, eqb-true, ne-eqb}
 use lib.Dec.{eqb, ltb}
 use lib.IntN.{ℤ, pos, negsuc}
-use lib.ListN.{length, take, drop, length-append}
+use lib.ListN.{length, take, drop, getD}
+use lib.Seq.{drop-cons}
 use Rattle.tle.specs.Layout.{isLetter, isBlank}
 use Rattle.tle.specs.Legal.{legal, designatorFits}
 use Rattle.tle.specs.Read.{classOf}
@@ -18,11 +19,12 @@ use Rattle.tle.specs.declared.Designator.the-variants.{Blank, Piece}
 use Rattle.tle.specs.declared.Record.{Record}
 use Rattle.tle.specs.Read.{letter}
 use Rattle.tle_writer.proofs.Facts.{Facts, both, facts, day-below}
-use Rattle.record_numbers.specs.Numbers.{placesOf, numbersOf, whole, byte, designatorFrom, designatorAt, at, recordAt, isClass, givenOf, storeRefusal, storedOver}
+use Rattle.record_numbers.specs.Numbers.{placesOf, numbersOf, whole, byte, designatorFrom, designatorAt, at, recordAt, Small, isClass, givenOf, storeRefusal, storedOver}
 use Rattle.record_numbers.specs.Back.{StoredIsGiven, GivenIsStored}
+use Rattle.record_numbers.specs.declared.Places.{Places}
 use Rattle.record_numbers.specs.declared.Given.{Given}
 use Rattle.record_numbers.specs.declared.Given.the-variants.{Fields, NoClass, TooShort}
-use Rattle.record_numbers.proofs.Small.{places-small}
+use Rattle.record_numbers.proofs.Small.{letter-small, places-small, small}
 
 -- ── a record's numbers give the record ──
 
@@ -70,7 +72,7 @@ record-back r ns k =
     λ i. record {
       number = r .number;
       class = class-back (r .class) i;
-      designator = (four (placesOf d .launch) (byte-back (placesOf d .a) (s .1)) (byte-back (placesOf d .b) (s .2)) (byte-back (placesOf d .c) (s .3)) ∙ designator-back d (k .designator)) i;
+      designator = (four (placesOf d .launch) (byte-back (placesOf d .a) (s .1 .1)) (byte-back (placesOf d .b) (s .2 .1)) (byte-back (placesOf d .c) (s .3 .1)) ∙ designator-back d (k .designator)) i;
       year = r .year;
       day = r .day;
       ndot = r .ndot;
@@ -129,3 +131,63 @@ places-back false y z w n a b c p q r s = rw p
 places-back true false z w n a b c p q r s = rw (p, q)
 places-back true true false w n a b c p q r s = rw (p, q, r)
 places-back true true true false n a b c p q r s = rw (p, q, r, s)
+
+-- n numbers from the k-th on
+abbrev from : ℕ → ℕ → List ℤ → List ℤ
+from k zero ns = []
+from k (suc n) ns = at ns k ∷ from (suc k) n ns
+
+taken-from : (k n : ℕ) (ns : List ℤ) → k + n ≤ length ns → take n (drop k ns) ≡ from k n ns
+taken-from k zero ns h = refl
+taken-from k (suc n) ns h =
+    ap (take (suc n)) (drop-cons ns k (pos 0) (omega arith)) ∙ ap (λ l. at ns k ∷ l) (taken-from (suc k) n ns (omega arith))
+
+placed : (n a b c : ℕ) → placesOf (designatorFrom n a b c) ≡ record { launch = n; a = a; b = b; c = c }
+placed n a b c = places-back (eqb n 0) (eqb a 32) (eqb b 32) (eqb c 32) n a b c refl refl refl refl
+
+abbrev fieldsOr : Record → Given → Record
+fieldsOr d (Fields r) = r
+fieldsOr d NoClass = d
+fieldsOr d TooShort = d
+
+given-by : (s k : Bool) (x r : Record) → cond s TooShort (cond k (Fields x) NoClass) ≡ Fields r → (s ≡ false) × (k ≡ true) × (x ≡ r)
+given-by true k x r e = let z : _≡_ {A = ℕ} 0 1 = cc in absurd (omega arith)
+given-by false true x r e = (refl, refl, ap (fieldsOr r) e)
+given-by false false x r e = let z : _≡_ {A = ℕ} 0 1 = cc in absurd (omega arith)
+
+numbers-back : (ns : List ℤ) → isClass (whole (at ns 1)) ≡ true → Facts (recordAt ns) → Small (recordAt ns) → from 0 22 ns ≡ numbersOf (recordAt ns)
+unfolding recordAt designatorAt numbersOf
+numbers-back ns c f k =
+    let d = placed (whole (at ns 2)) (byte (at ns 3)) (byte (at ns 4)) (byte (at ns 5)) in
+    let b = places-small (designatorAt ns) (f .designator) in
+    let w = whole (at ns 1) in
+    let class = class-by (eqb w 85) (eqb w 67) w refl refl c in
+    let byte-is : (x : ℤ) (p : Places → ℕ) → p (placesOf (designatorAt ns)) ≡ byte x → 0 < p (placesOf (designatorAt ns)) → x ≡ pos (p (placesOf (designatorAt ns))) =
+    λ x p e h. byte-by (ltb (whole x) 256) x refl (omega arith) ∙ sym (ap pos e) in
+    λ i.
+    whole-back (at ns 0) (k .4) i
+    ∷ (whole-back (at ns 1) (omega (arith, class, letter-small (classOf w))) ∙ ap pos class) i
+    ∷ (whole-back (at ns 2) (omega (arith, k .0, ap (λ p. p .launch) d)) ∙ sym (ap (λ p. pos (p .launch)) d)) i
+    ∷ byte-is (at ns 3) (λ p. p .a) (ap (λ p. p .a) d) (b .1 .0) i
+    ∷ byte-is (at ns 4) (λ p. p .b) (ap (λ p. p .b) d) (b .2 .0) i
+    ∷ byte-is (at ns 5) (λ p. p .c) (ap (λ p. p .c) d) (b .3 .0) i
+    ∷ whole-back (at ns 6) (k .5) i
+    ∷ whole-back (at ns 7) (k .6) i
+    ∷ at ns 8 ∷ at ns 9 ∷ at ns 10 ∷ at ns 11 ∷ at ns 12
+    ∷ whole-back (at ns 13) (k .7) i
+    ∷ whole-back (at ns 14) (k .8) i
+    ∷ whole-back (at ns 15) (k .9) i
+    ∷ whole-back (at ns 16) (k .10) i
+    ∷ whole-back (at ns 17) (k .11) i
+    ∷ whole-back (at ns 18) (k .12) i
+    ∷ whole-back (at ns 19) (k .13) i
+    ∷ whole-back (at ns 20) (k .14) i
+    ∷ whole-back (at ns 21) (k .15) i
+    ∷ []
+
+pub given-is-stored : GivenIsStored
+unfolding givenOf
+given-is-stored r ns e h =
+    let g = given-by (ltb (length ns) 22) (isClass (whole (at ns 1))) (recordAt ns) r e in
+    let l = rw (← g .2) at h in
+    taken-from 0 22 ns (omega (arith, ltb-false (length ns) 22 (g .0))) ∙ numbers-back ns (g .1) (facts (recordAt ns) l) (small (recordAt ns) l) ∙ ap numbersOf (g .2)

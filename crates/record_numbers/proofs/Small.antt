@@ -24,24 +24,28 @@ letter-small Unclassified = omega arith
 letter-small Classified = omega arith
 letter-small Secret = omega arith
 
-letter-byte : (b : ℕ) → isLetter b ≡ true → b < 256
-letter-byte b h = omega (arith, leb-true b 90 (both (leb 65 b) (leb b 90) h .1))
+-- a byte that is not 0
+abbrev Byte : ℕ → Type 0
+Byte b = (0 < b) × (b < 256)
 
-blank-byte : (b : ℕ) → isBlank b ≡ true → b < 256
-blank-byte b h = omega (arith, eqb-true b 32 h)
+letter-byte : (b : ℕ) → isLetter b ≡ true → Byte b
+letter-byte b h = let t = both (leb 65 b) (leb b 90) h in (omega (arith, leb-true 65 b (t .0)), omega (arith, leb-true b 90 (t .1)))
 
-place-byte : (t : Bool) (b : ℕ) → isLetter b ≡ t → isLetter b || isBlank b ≡ true → b < 256
+blank-byte : (b : ℕ) → isBlank b ≡ true → Byte b
+blank-byte b h = (omega (arith, eqb-true b 32 h), omega (arith, eqb-true b 32 h))
+
+place-byte : (t : Bool) (b : ℕ) → isLetter b ≡ t → isLetter b || isBlank b ≡ true → Byte b
 place-byte true b e h = letter-byte b e
 place-byte false b e h = blank-byte b (rw e at h)
 
-last-byte : (t : Bool) (b c : ℕ) → isLetter c && isLetter b ≡ t → isLetter c && isLetter b || isBlank c ≡ true → c < 256
+last-byte : (t : Bool) (b c : ℕ) → isLetter c && isLetter b ≡ t → isLetter c && isLetter b || isBlank c ≡ true → Byte c
 last-byte true b c e h = letter-byte c (both (isLetter c) (isLetter b) e .0)
 last-byte false b c e h = blank-byte c (rw e at h)
 
 -- the launch has five digits, the places are bytes
-pub places-small : (d : Designator) → designatorFits d ≡ true → (placesOf d .launch < 10 ^ 5) × (placesOf d .a < 256) × (placesOf d .b < 256) × (placesOf d .c < 256)
+pub places-small : (d : Designator) → designatorFits d ≡ true → (placesOf d .launch < 10 ^ 5) × Byte (placesOf d .a) × Byte (placesOf d .b) × Byte (placesOf d .c)
 unfolding designatorFits placesOf
-places-small Blank h = (omega arith, omega arith, omega arith, omega arith)
+places-small Blank h = (omega arith, (omega arith, omega arith), (omega arith, omega arith), (omega arith, omega arith))
 places-small (Piece n a b c) h =
     let abc = both (ltb n 100000 && isLetter a && (isLetter b || isBlank b)) (isLetter c && isLetter b || isBlank c) h in
     let ab = both (ltb n 100000 && isLetter a) (isLetter b || isBlank b) (abc .0) in

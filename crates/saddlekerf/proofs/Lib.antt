@@ -5,4 +5,5 @@ mod Loads
 mod Posts
 pub mod Parts
 pub mod Sequences
-pub mod Records
+mod Records
+pub mod Trips
