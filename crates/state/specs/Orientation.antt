@@ -3,7 +3,7 @@ use mathlib.Core.Bool.{Bool, _&&_}
 use lib.Ieee.{Float, neg}
 use Rattle.elementary.specs.Notation.{_⊕_, _⊖_, _⊗_, finite}
 use Rattle.elementary.specs.Trig.{sinCos}
-use Rattle.elementary.specs.declared.SinCos.{SinCos}
+use Rattle.trigonometry.specs.declared.SinCos.{SinCos}
 use Rattle.wgs72.specs.Getgravconst.{radiusearthkm}
 use Rattle.wgs72.specs.Computed.{vkmpersec}
 use Rattle.state.specs.declared.parts.Short.{Short}

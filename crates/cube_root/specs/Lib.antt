@@ -1,0 +1,4 @@
+pub mod Cube
+pub mod Power
+pub mod Claims
+pub mod Examples

@@ -1,0 +1,4 @@
+pub mod Notation
+pub mod Horner
+pub mod Magnitude
+pub mod Examples

@@ -1,0 +1,3 @@
+pub mod Theorems
+mod RootLaws
+mod RootPatterns

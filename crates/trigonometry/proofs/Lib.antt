@@ -1,0 +1,3 @@
+pub mod Theorems
+mod Remainder
+mod Turns
