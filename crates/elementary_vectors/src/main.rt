@@ -3,12 +3,10 @@
 // arguments and its result, as bit patterns of f64 in hex; every NaN is written `nan`. A line that
 // begins with `#` is a comment. A line of a known name that cannot be read counts as differing, and
 // one of no known name as not read.
-use libc::STDIN_FILENO;
-use libc::STDOUT_FILENO;
-
 mod words; // from text to numbers
 mod tally; // what is counted
 
+use streams::print;
 use tally::Tally;
 use tally::count_lines;
 
@@ -26,55 +24,52 @@ const UNKNOWN: u8 = 5;
 
 const COMMENT: u8 = 6;
 
-fn print(text: &[u8]) {
-    io::write_all(STDOUT_FILENO, text);
-}
-
-fn print_first(input: &[u8], t: Tally) {
+fn print_first(failed: &mut bool, input: &[u8], t: Tally) {
     let from = t.from;
     let to = t.to;
     if from < to {
         if to <= input.len() {
-            print(b"  first: ");
-            print(&input[from..to]);
-            print(b"\n");
+            print(failed, b"  first: ");
+            print(failed, &input[from..to]);
+            print(failed, b"\n");
         }
     }
 }
 
-fn report(input: &[u8], name: &[u8], which: u8) {
+fn report(failed: &mut bool, input: &[u8], name: &[u8], which: u8) {
     let t = count_lines(input, which);
-    print(name);
-    io::print_decimal(STDOUT_FILENO, t.lines);
-    print(b" compared, ");
-    io::print_decimal(STDOUT_FILENO, t.differ);
-    print(b" differ\n");
-    print_first(input, t);
+    print(failed, name);
+    streams::print_decimal(failed, t.lines);
+    print(failed, b" compared, ");
+    streams::print_decimal(failed, t.differ);
+    print(failed, b" differ\n");
+    print_first(failed, input, t);
 }
 
-fn report_unknown(input: &[u8]) {
+fn report_unknown(failed: &mut bool, input: &[u8]) {
     let t = count_lines(input, UNKNOWN);
-    print(b"not read: ");
-    io::print_decimal(STDOUT_FILENO, t.lines);
-    print(b"\n");
-    print_first(input, t);
+    print(failed, b"not read: ");
+    streams::print_decimal(failed, t.lines);
+    print(failed, b"\n");
+    print_first(failed, input, t);
 }
 
-fn report_all(input: &[u8]) {
-    report(input, b"sqrt: ", SQRT);
-    report(input, b"cbrt: ", CBRT);
-    report(input, b"sin: ", SIN);
-    report(input, b"cos: ", COS);
-    report(input, b"atan2: ", ATAN2);
-    report_unknown(input);
+fn report_all(failed: &mut bool, input: &[u8]) {
+    report(failed, input, b"sqrt: ", SQRT);
+    report(failed, input, b"cbrt: ", CBRT);
+    report(failed, input, b"sin: ", SIN);
+    report(failed, input, b"cos: ", COS);
+    report(failed, input, b"atan2: ", ATAN2);
+    report_unknown(failed, input);
 }
 
 fn main() {
+    let mut failed = false;
     let mut space = io::large_buffer();
-    let n = io::read_full(STDIN_FILENO, &mut space);
+    let n = streams::read_all(&mut failed, &mut space);
     if n == 65536 {
-        print(b"the input is too long\n");
+        print(&mut failed, b"the input is too long\n");
         return;
     }
-    report_all(&space[..n]);
+    report_all(&mut failed, &space[..n]);
 }

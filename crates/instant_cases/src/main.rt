@@ -10,8 +10,6 @@ use instant::Epoch;
 use instant::Instant;
 use instant::Microseconds;
 use instant::Moved;
-use libc::STDIN_FILENO;
-use libc::STDOUT_FILENO;
 
 // A line so far: its operation's name, read as a number; how many numbers it has, how many digits the
 // last one has, and the last four of them, d the last; and whether it broke the form.
@@ -310,27 +308,26 @@ struct Turn {
     more: bool,
 }
 
-fn read_more(r: Run) -> Turn {
+fn read_more(failed: &mut bool, r: Run) -> Turn {
     let mut buffer = io::buffer();
-    let got = libc::read(STDIN_FILENO, &mut buffer);
-    if got <= 0 {
+    let n = streams::read(failed, &mut buffer);
+    if n == 0 {
         return Turn {
             run: r,
             more: false,
         };
     }
-    let n = io::count(got, &buffer);
     let run = feed(r, &buffer[..n]);
     Turn { run, more: true }
 }
 
 // A proved loop has to end, and nothing says that the input does. So it counts its turns down, from a
 // number that no run uses up.
-fn read_all(r: Run) -> Run {
+fn read_all(failed: &mut bool, r: Run) -> Run {
     let mut run = r;
     let mut turns = u64::MAX;
     while turns > 0 {
-        let t = read_more(run);
+        let t = read_more(failed, run);
         run = t.run;
         if !t.more {
             return run;
@@ -340,32 +337,32 @@ fn read_all(r: Run) -> Run {
     run
 }
 
-fn print_tally(label: &[u8], compared: u64, differ: u64, first: u64) {
-    io::write_all(STDOUT_FILENO, label);
-    io::print_decimal(STDOUT_FILENO, compared);
-    io::write_all(STDOUT_FILENO, b" compared, ");
-    io::print_decimal(STDOUT_FILENO, differ);
-    io::write_all(STDOUT_FILENO, b" differ");
+fn print_tally(failed: &mut bool, label: &[u8], compared: u64, differ: u64, first: u64) {
+    streams::print(failed, label);
+    streams::print_decimal(failed, compared);
+    streams::print(failed, b" compared, ");
+    streams::print_decimal(failed, differ);
+    streams::print(failed, b" differ");
     if differ > 0 {
-        io::write_all(STDOUT_FILENO, b", the first in line ");
-        io::print_decimal(STDOUT_FILENO, first);
+        streams::print(failed, b", the first in line ");
+        streams::print_decimal(failed, first);
     }
-    io::write_all(STDOUT_FILENO, b"\n");
+    streams::print(failed, b"\n");
 }
 
-fn print_tallies(t: Tallies) {
+fn print_tallies(failed: &mut bool, t: Tallies) {
     let n = t.compared;
     let d = t.differ;
     let f = t.first;
-    print_tally(b"epoch: ", n[0], d[0], f[0]);
-    print_tally(b"split: ", n[1], d[1], f[1]);
-    print_tally(b"move: ", n[2], d[2], f[2]);
-    print_tally(b"since: ", n[3], d[3], f[3]);
-    print_tally(b"minutes: ", n[4], d[4], f[4]);
-    print_tally(b"days: ", n[5], d[5], f[5]);
-    print_tally(b"jd: ", n[6], d[6], f[6]);
-    print_tally(b"gst: ", n[7], d[7], f[7]);
-    print_tally(b"unreadable: ", n[8], d[8], f[8]);
+    print_tally(failed, b"epoch: ", n[0], d[0], f[0]);
+    print_tally(failed, b"split: ", n[1], d[1], f[1]);
+    print_tally(failed, b"move: ", n[2], d[2], f[2]);
+    print_tally(failed, b"since: ", n[3], d[3], f[3]);
+    print_tally(failed, b"minutes: ", n[4], d[4], f[4]);
+    print_tally(failed, b"days: ", n[5], d[5], f[5]);
+    print_tally(failed, b"jd: ", n[6], d[6], f[6]);
+    print_tally(failed, b"gst: ", n[7], d[7], f[7]);
+    print_tally(failed, b"unreadable: ", n[8], d[8], f[8]);
 }
 
 fn main() {
@@ -375,16 +372,20 @@ fn main() {
         differ: [0; 9],
         first: [0; 9],
     };
-    let run = read_all(Run {
-        line: no_line(),
-        tallies,
-    });
+    let mut failed = false;
+    let run = read_all(
+        &mut failed,
+        Run {
+            line: no_line(),
+            tallies,
+        },
+    );
     let line = run.line;
     let tallies = run.tallies;
     // A last line without its newline.
     if line.name != 0 {
-        print_tallies(tallied(tallies, line));
+        print_tallies(&mut failed, tallied(tallies, line));
         return;
     }
-    print_tallies(tallies);
+    print_tallies(&mut failed, tallies);
 }

@@ -5,8 +5,6 @@
 use instant::Angle;
 use instant::Epoch;
 use instant::Instant;
-use libc::STDIN_FILENO;
-use libc::STDOUT_FILENO;
 use opening::opening::Opening;
 use opening::opening::open;
 use satellite::DeepSpace;
@@ -157,7 +155,7 @@ fn put_pair(out: &mut [u8], at: usize, line1: &[u8], line2: &[u8]) -> usize {
     }
 }
 
-fn print_pair(line1: &[u8], line2: &[u8]) {
+fn print_pair(failed: &mut bool, line1: &[u8], line2: &[u8]) {
     let mut out = [0u8; 512];
     if line1.len() < 7 {
         return;
@@ -166,20 +164,21 @@ fn print_pair(line1: &[u8], line2: &[u8]) {
     let p = put_pair(&mut out, p, line1, line2);
     let n = put_byte(&mut out, p, b'\n');
     if n <= 512 {
-        io::write_all(STDOUT_FILENO, &out[0..n]);
+        streams::print(failed, &out[0..n]);
     }
 }
 
-fn print_pairs(s: &[u8]) {
+fn print_pairs(failed: &mut bool, s: &[u8]) {
     let mut at = 0;
     while s.len() - at >= 140 {
-        print_pair(&s[at..at + 69], &s[at + 70..at + 139]);
+        print_pair(failed, &s[at..at + 69], &s[at + 70..at + 139]);
         at += 140;
     }
 }
 
 fn main() {
+    let mut failed = false;
     let mut space = io::large_buffer();
-    let n = io::read_full(STDIN_FILENO, &mut space);
-    print_pairs(&space[..n]);
+    let n = streams::read_all(&mut failed, &mut space);
+    print_pairs(&mut failed, &space[..n]);
 }

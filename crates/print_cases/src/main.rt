@@ -2,8 +2,6 @@
 // which `|` stands for a newline and `~` for a carriage return. For each the program prints `case` and
 // its number, and then what `print_pair` prints of that input. The input is fed byte by byte, where
 // `print_pair` feeds what a read gives it.
-use libc::STDIN_FILENO;
-use libc::STDOUT_FILENO;
 use listing::Printed;
 use text::Lines;
 
@@ -23,31 +21,31 @@ fn meant(byte: u8) -> u8 {
     byte
 }
 
-fn write_heading(number: u64) {
+fn print_heading(failed: &mut bool, number: u64) {
     let mut out = io::buffer();
     let n = text::put_line(&mut out, 0, b"case ", number);
     if n <= 4096 {
-        io::write_all(STDOUT_FILENO, &out[0..n]);
+        streams::print(failed, &out[0..n]);
     }
 }
 
-fn write_case(lines: Lines) {
+fn print_case(failed: &mut bool, lines: Lines) {
     let mut out = io::buffer();
     let printed = listing::print_lines(lines, &mut out);
     let Printed::Written(n) = printed else {
         return;
     };
     if n <= 4096 {
-        io::write_all(STDOUT_FILENO, &out[0..n]);
+        streams::print(failed, &out[0..n]);
     }
 }
 
 // The case after one more byte; a newline ends it and begins the next.
-fn take(case: Case, byte: u8) -> Case {
+fn take(failed: &mut bool, case: Case, byte: u8) -> Case {
     let lines = case.lines;
     if byte == b'\n' {
-        write_heading(case.number);
-        write_case(lines);
+        print_heading(failed, case.number);
+        print_case(failed, lines);
         let lines = Lines::start();
         return Case {
             lines,
@@ -62,11 +60,11 @@ fn take(case: Case, byte: u8) -> Case {
     }
 }
 
-fn take_piece(case: Case, piece: &[u8]) -> Case {
+fn take_piece(failed: &mut bool, case: Case, piece: &[u8]) -> Case {
     let mut case = case;
     let mut i = 0;
     while i < piece.len() {
-        case = take(case, piece[i]);
+        case = take(failed, case, piece[i]);
         i += 1;
     }
     case
@@ -75,15 +73,15 @@ fn take_piece(case: Case, piece: &[u8]) -> Case {
 fn main() {
     let lines = Lines::start();
     let mut case = Case { lines, number: 1 };
+    let mut failed = false;
     let mut turns = u64::MAX;
     while turns > 0 {
         let mut buffer = io::buffer();
-        let got = libc::read(STDIN_FILENO, &mut buffer);
-        if got <= 0 {
+        let n = streams::read(&mut failed, &mut buffer);
+        if n == 0 {
             return;
         }
-        let n = io::count(got, &buffer);
-        case = take_piece(case, &buffer[..n]);
+        case = take_piece(&mut failed, case, &buffer[..n]);
         turns -= 1;
     }
 }

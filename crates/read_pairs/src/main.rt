@@ -1,8 +1,6 @@
 // Reads pairs of lines, each ended by a newline, from standard input and prints for each pair what
 // reading it answers: `ok`, or `refused`, the number and what comes back with it. Its input and the
 // expected output are made by tests/tle_pairs.py, with a reader of its own.
-use libc::STDIN_FILENO;
-use libc::STDOUT_FILENO;
 use refusal_line::put_refusal;
 use text::input::Line;
 use text::input::Lines;
@@ -16,45 +14,45 @@ fn put_reading(out: &mut [u8], reading: Reading) -> usize {
     }
 }
 
-fn print(line1: &[u8], line2: &[u8]) {
+fn print(failed: &mut bool, line1: &[u8], line2: &[u8]) {
     let mut out = [0u8; 64];
     let size = put_reading(&mut out, tle::read(line1, line2));
     if size <= 64 {
-        io::write_all(STDOUT_FILENO, &out[0..size]);
+        streams::print(failed, &out[0..size]);
     }
 }
 
 // Of a line at most 70 bytes are kept.
-fn print_kept(bytes1: [u8; 70], size1: usize, bytes2: [u8; 70], size2: usize) {
+fn print_kept(failed: &mut bool, bytes1: [u8; 70], size1: usize, bytes2: [u8; 70], size2: usize) {
     if size1 <= 70 {
         if size2 <= 70 {
-            print(&bytes1[0..size1], &bytes2[0..size2]);
+            print(failed, &bytes1[0..size1], &bytes2[0..size2]);
         }
     }
 }
 
-fn print_pair(first: Line, second: Line) {
+fn print_pair(failed: &mut bool, first: Line, second: Line) {
     let bytes1 = first.bytes;
     let bytes2 = second.bytes;
-    print_kept(bytes1, first.size, bytes2, second.size);
+    print_kept(failed, bytes1, first.size, bytes2, second.size);
 }
 
 // Once both lines have ended they are read, and the next pair begins.
-fn read_ended(lines: Lines) -> Lines {
+fn read_ended(failed: &mut bool, lines: Lines) -> Lines {
     if lines.ended < 2 {
         return lines;
     }
     let first = lines.first;
     let second = lines.second;
-    print_pair(first, second);
+    print_pair(failed, first, second);
     Lines::start()
 }
 
-fn feed(lines: Lines, piece: &[u8]) -> Lines {
+fn feed(failed: &mut bool, lines: Lines, piece: &[u8]) -> Lines {
     let mut lines = lines;
     let mut i = 0;
     while i < piece.len() {
-        lines = read_ended(lines.feed(&piece[i..i + 1]));
+        lines = read_ended(failed, lines.feed(&piece[i..i + 1]));
         i += 1;
     }
     lines
@@ -66,24 +64,24 @@ struct Turn {
     more: bool,
 }
 
-fn read_more(lines: Lines) -> Turn {
+fn read_more(failed: &mut bool, lines: Lines) -> Turn {
     let mut buffer = io::buffer();
-    let got = libc::read(STDIN_FILENO, &mut buffer);
-    if got <= 0 {
+    let n = streams::read(failed, &mut buffer);
+    if n == 0 {
         return Turn { lines, more: false };
     }
-    let n = io::count(got, &buffer);
-    let lines = feed(lines, &buffer[..n]);
+    let lines = feed(failed, lines, &buffer[..n]);
     Turn { lines, more: true }
 }
 
 // A proved loop has to end, and nothing says that the input does. So it counts its turns down, from
 // a number that no run uses up.
 fn main() {
+    let mut failed = false;
     let mut lines = Lines::start();
     let mut turns = u64::MAX;
     while turns > 0 {
-        let turn = read_more(lines);
+        let turn = read_more(&mut failed, lines);
         lines = turn.lines;
         if !turn.more {
             return;

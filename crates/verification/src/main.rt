@@ -15,8 +15,6 @@ use comparison::micrometres;
 use comparison::put_tally;
 use comparison::put_timed;
 use instant::Microseconds;
-use libc::STDIN_FILENO;
-use libc::STDOUT_FILENO;
 use opening::opening::PairOpening;
 use opening::opening::Satellite;
 use opening::opening::open_pair;
@@ -25,6 +23,7 @@ use request_line::Request;
 use request_line::read_request;
 use requests::request;
 use sgp4::Row;
+use streams::print;
 use text::put_line;
 
 // What the lines so far came to: nothing, the first line of a pair (from where to where it stands), a
@@ -41,61 +40,57 @@ struct Progress {
     tally: Tally,
 }
 
-fn print(text: &[u8]) {
-    io::write_all(STDOUT_FILENO, text);
-}
-
-fn print_timed(word: &[u8], time: i64, label: &[u8], n: u64) {
+fn print_timed(failed: &mut bool, word: &[u8], time: i64, label: &[u8], n: u64) {
     let mut out = [0u8; 128];
     let size = put_timed(&mut out, 0, word, time, label, n);
     if size <= 128 {
-        print(&out[0..size]);
+        print(failed, &out[0..size]);
     }
 }
 
-fn print_tally(tally: Tally) {
+fn print_tally(failed: &mut bool, tally: Tally) {
     let mut out = [0u8; 256];
     let size = put_tally(&mut out, 0, tally);
     if size <= 256 {
-        print(&out[0..size]);
+        print(failed, &out[0..size]);
     }
 }
 
 // The catalogue number's five columns as they stand, in a refused line too.
-fn print_satellite(line: &[u8]) {
+fn print_satellite(failed: &mut bool, line: &[u8]) {
     if line.len() < 7 {
         return;
     }
-    print(b"satellite ");
-    print(&line[2..7]);
-    print(b"\n");
+    print(failed, b"satellite ");
+    print(failed, &line[2..7]);
+    print(failed, b"\n");
 }
 
-fn print_unread(refusal: tle::Refusal) {
+fn print_unread(failed: &mut bool, refusal: tle::Refusal) {
     let mut out = [0u8; 64];
     let size = put_refusal(&mut out, 0, refusal);
     if size <= 64 {
-        print(&out[0..size]);
+        print(failed, &out[0..size]);
     }
 }
 
-fn print_refused(n: u64) {
+fn print_refused(failed: &mut bool, n: u64) {
     let mut out = [0u8; 64];
     let size = put_line(&mut out, 0, b"refused ", n);
     if size <= 64 {
-        print(&out[0..size]);
+        print(failed, &out[0..size]);
     }
 }
 
-fn print_opening(opening: PairOpening) -> Stage {
+fn print_opening(failed: &mut bool, opening: PairOpening) -> Stage {
     match opening {
         PairOpening::Opened(satellite) => Stage::Open(satellite),
         PairOpening::Unread(why) => {
-            print_unread(why);
+            print_unread(failed, why);
             Stage::Refused
         }
         PairOpening::Refused(why) => {
-            print_refused(why.number());
+            print_refused(failed, why.number());
             Stage::Refused
         }
     }
@@ -106,102 +101,121 @@ fn wide(n: u8) -> u64 {
 }
 
 // A published row's time and position are the four numbers of its line.
-fn compare(tally: Tally, row: Row, numbers: [i64; 4]) -> Tally {
+fn compare(failed: &mut bool, tally: Tally, row: Row, numbers: [i64; 4]) -> Tally {
     if row.refusal > 0 {
-        print_timed(b"at ", numbers[0], b" refused ", wide(row.refusal));
+        print_timed(failed, b"at ", numbers[0], b" refused ", wide(row.refusal));
         return tally.with_refused();
     }
     let km = difference(row.x, row.y, row.z, numbers[1], numbers[2], numbers[3]);
     if is_off(km) {
-        print_timed(b"at ", numbers[0], b" off by micrometres ", micrometres(km));
+        print_timed(
+            failed,
+            b"at ",
+            numbers[0],
+            b" off by micrometres ",
+            micrometres(km),
+        );
     }
     tally.with_compared(km)
 }
 
-fn published_row(satellite: Satellite, tally: Tally, numbers: [i64; 4]) -> Progress {
-    let a = request(satellite, Microseconds(numbers[0]));
-    let row = a.row;
-    let satellite = a.satellite;
-    let tally = compare(tally, row, numbers);
-    Progress {
-        stage: Stage::Open(satellite),
-        tally,
+// What a line after a pair asks: a published row, a time at which the published program stopped, or
+// nothing that can be read.
+enum Asked {
+    Row,
+    Stop,
+    Nothing,
+}
+
+fn asked_by(request: Request) -> Asked {
+    match request {
+        Request::One => Asked::Stop,
+        Request::List(n) => {
+            if n == 4 {
+                return Asked::Row;
+            }
+            Asked::Nothing
+        }
+        Request::TooMany => Asked::Nothing,
+        Request::Malformed => Asked::Nothing,
     }
+}
+
+fn print_not_read(failed: &mut bool) {
+    print(failed, b"a line is not read\n");
 }
 
 // A row that is answered has the refusal number 0.
-fn stopped(satellite: Satellite, tally: Tally, time: i64) -> Progress {
-    let a = request(satellite, Microseconds(time));
+fn judge(failed: &mut bool, asked: Asked, tally: Tally, row: Row, numbers: [i64; 4]) -> Tally {
+    match asked {
+        Asked::Row => compare(failed, tally, row, numbers),
+        Asked::Stop => {
+            print_timed(
+                failed,
+                b"published stop at ",
+                numbers[0],
+                b" refused ",
+                wide(row.refusal),
+            );
+            tally
+        }
+        Asked::Nothing => {
+            print_not_read(failed);
+            tally
+        }
+    }
+}
+
+// A line that cannot be read asks a time too, and its row is passed over: no later row depends on it.
+fn ask(failed: &mut bool, satellite: Satellite, tally: Tally, line: &[u8]) -> Progress {
+    let mut numbers = [0i64; 4];
+    let asked = asked_by(read_request(line, &mut numbers));
+    let a = request(satellite, Microseconds(numbers[0]));
     let row = a.row;
     let satellite = a.satellite;
-    print_timed(b"published stop at ", time, b" refused ", wide(row.refusal));
+    let tally = judge(failed, asked, tally, row, numbers);
     Progress {
         stage: Stage::Open(satellite),
         tally,
-    }
-}
-
-fn not_read(stage: Stage, tally: Tally) -> Progress {
-    print(b"a line is not read\n");
-    Progress { stage, tally }
-}
-
-fn listed(satellite: Satellite, tally: Tally, n: usize, numbers: [i64; 4]) -> Progress {
-    if n == 4 {
-        return published_row(satellite, tally, numbers);
-    }
-    not_read(Stage::Open(satellite), tally)
-}
-
-fn asked(satellite: Satellite, tally: Tally, line: &[u8]) -> Progress {
-    let mut numbers = [0i64; 4];
-    match read_request(line, &mut numbers) {
-        Request::One => stopped(satellite, tally, numbers[0]),
-        Request::List(n) => listed(satellite, tally, n, numbers),
-        Request::TooMany => not_read(Stage::Open(satellite), tally),
-        Request::Malformed => not_read(Stage::Open(satellite), tally),
     }
 }
 
 // Every published row of a refused pair counts as refused.
-fn refused_with_pair(tally: Tally, line: &[u8]) -> Progress {
+fn refused_with_pair(failed: &mut bool, tally: Tally, line: &[u8]) -> Tally {
     let mut numbers = [0i64; 4];
-    match read_request(line, &mut numbers) {
-        Request::One => Progress {
-            stage: Stage::Refused,
-            tally,
-        },
-        Request::List(_) => {
-            let tally = tally.with_refused();
-            Progress {
-                stage: Stage::Refused,
-                tally,
-            }
+    match asked_by(read_request(line, &mut numbers)) {
+        Asked::Row => tally.with_refused(),
+        Asked::Stop => tally,
+        Asked::Nothing => {
+            print_not_read(failed);
+            tally
         }
-        Request::TooMany => not_read(Stage::Refused, tally),
-        Request::Malformed => not_read(Stage::Refused, tally),
     }
 }
 
-fn second_line(input: &[u8], from: usize, to: usize, line: &[u8]) -> Progress {
+fn second_line(failed: &mut bool, input: &[u8], from: usize, to: usize, line: &[u8]) -> Progress {
     let tally = Tally::start();
     if from <= to {
         if to <= input.len() {
-            let stage = print_opening(open_pair(&input[from..to], line));
+            let stage = print_opening(failed, open_pair(&input[from..to], line));
             return Progress { stage, tally };
         }
     }
-    not_read(Stage::Refused, tally)
+    print_not_read(failed);
+    Progress {
+        stage: Stage::Refused,
+        tally,
+    }
 }
 
-fn end_satellite(progress: Progress) {
+fn end_satellite(failed: &mut bool, progress: Progress) {
     let stage = progress.stage;
     let tally = progress.tally;
     match stage {
-        Stage::Nothing => print(b""),
-        Stage::First(_, _) => print(b"a pair has no second line\n"),
-        Stage::Open(_) => print_tally(tally),
-        Stage::Refused => print_tally(tally),
+        Stage::Nothing => {},
+        Stage::First(_, _) => print(failed, b"a pair has no second line\n"),
+        Stage::Open(_) => print_tally(failed, tally),
+        Stage::Refused => print_tally(failed, tally),
     }
 }
 
@@ -212,46 +226,66 @@ fn begins(line: &[u8], byte: u8) -> bool {
     line[0] == byte
 }
 
-fn within_satellite(progress: Progress, input: &[u8], line: &[u8]) -> Progress {
+fn within_satellite(failed: &mut bool, progress: Progress, input: &[u8], line: &[u8]) -> Progress {
     let stage = progress.stage;
     let tally = progress.tally;
     match stage {
-        Stage::Nothing => not_read(Stage::Nothing, tally),
-        Stage::First(from, to) => second_line(input, from, to, line),
-        Stage::Open(satellite) => asked(satellite, tally, line),
-        Stage::Refused => refused_with_pair(tally, line),
+        Stage::Nothing => {
+            print_not_read(failed);
+            Progress {
+                stage: Stage::Nothing,
+                tally,
+            }
+        }
+        Stage::First(from, to) => second_line(failed, input, from, to, line),
+        Stage::Open(satellite) => ask(failed, satellite, tally, line),
+        Stage::Refused => {
+            let tally = refused_with_pair(failed, tally, line);
+            Progress {
+                stage: Stage::Refused,
+                tally,
+            }
+        }
     }
 }
 
-fn first_line(progress: Progress, line: &[u8], from: usize, to: usize) -> Progress {
-    end_satellite(progress);
-    print_satellite(line);
+// A line that ends what belongs to the satellite before it: a comment, or the first of a pair.
+fn first_line(
+    failed: &mut bool,
+    progress: Progress,
+    line: &[u8],
+    from: usize,
+    to: usize,
+) -> Progress {
+    end_satellite(failed, progress);
     let tally = Tally::start();
+    if begins(line, b'#') {
+        print(failed, line);
+        print(failed, b"\n");
+        return Progress {
+            stage: Stage::Nothing,
+            tally,
+        };
+    }
+    print_satellite(failed, line);
     Progress {
         stage: Stage::First(from, to),
         tally,
     }
 }
 
-fn comment(progress: Progress, line: &[u8]) -> Progress {
-    end_satellite(progress);
-    print(line);
-    print(b"\n");
-    let tally = Tally::start();
-    Progress {
-        stage: Stage::Nothing,
-        tally,
+fn next_line(
+    failed: &mut bool,
+    progress: Progress,
+    input: &[u8],
+    line: &[u8],
+    from: usize,
+    to: usize,
+) -> Progress {
+    if begins(line, b'1') | begins(line, b'#') {
+        return first_line(failed, progress, line, from, to);
     }
-}
-
-fn next_line(progress: Progress, input: &[u8], line: &[u8], from: usize, to: usize) -> Progress {
-    if begins(line, b'1') {
-        return first_line(progress, line, from, to);
-    }
-    if begins(line, b'#') {
-        return comment(progress, line);
-    }
-    within_satellite(progress, input, line)
+    within_satellite(failed, progress, input, line)
 }
 
 // Where the line that begins at an index ends.
@@ -269,7 +303,7 @@ fn line_end(input: &[u8], from: usize) -> usize
     i
 }
 
-fn verify(input: &[u8]) {
+fn verify(failed: &mut bool, input: &[u8]) {
     let tally = Tally::start();
     let mut progress = Progress {
         stage: Stage::Nothing,
@@ -279,18 +313,19 @@ fn verify(input: &[u8]) {
     while at < input.len() {
         let end = line_end(input, at);
         let line = &input[at..end];
-        progress = next_line(progress, input, line, at, end);
+        progress = next_line(failed, progress, input, line, at, end);
         at = end + 1;
     }
-    end_satellite(progress);
+    end_satellite(failed, progress);
 }
 
 fn main() {
+    let mut failed = false;
     let mut space = io::large_buffer();
-    let n = io::read_full(STDIN_FILENO, &mut space);
+    let n = streams::read_all(&mut failed, &mut space);
     if n == 65536 {
-        print(b"the input is too long\n");
+        print(&mut failed, b"the input is too long\n");
         return;
     }
-    verify(&space[..n]);
+    verify(&mut failed, &space[..n]);
 }

@@ -3,10 +3,10 @@ use Rattle.instant_cases.proofs.read_all.Statement.{statement}
 use Rattle.instant_cases.proofs.read_all.Tie as tie
 
 abbrev Inv-loop : tie.InvT-loop
-Inv-loop run₀ turns₀ run turns = Unit {0}
+Inv-loop failed₀ run₀ turns₀ failed run turns = Unit {0}
 
 abbrev μ-loop : tie.MeasureT-loop
-μ-loop run₀ turns₀ run turns = turns
+μ-loop failed₀ run₀ turns₀ failed run turns = turns
 
 pub read-all-spec : {M : Type 1} → statement M
 read-all-spec =

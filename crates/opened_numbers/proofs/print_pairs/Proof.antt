@@ -6,10 +6,10 @@ use Rattle.opened_numbers.proofs.print_pairs.Statement.{statement}
 use Rattle.opened_numbers.proofs.print_pairs.Tie as tie
 
 abbrev Inv-loop : tie.InvT-loop
-Inv-loop s at₀ at = at ≤ length s
+Inv-loop failed₀ s at₀ failed at = at ≤ length s
 
 abbrev μ-loop : tie.MeasureT-loop
-μ-loop s at₀ at = length s - at
+μ-loop failed₀ s at₀ failed at = length s - at
 
 loop-holds : tie.Need-loop-holds Inv-loop μ-loop
 loop-holds c = search needs

@@ -5,10 +5,10 @@ use Rattle.print_cases.proofs.take_piece.Statement.{statement}
 use Rattle.print_cases.proofs.take_piece.Tie as tie
 
 abbrev Inv-loop : tie.InvT-loop
-Inv-loop piece case₀ i₀ case i = i ≤ length piece
+Inv-loop failed₀ piece case₀ i₀ failed case i = i ≤ length piece
 
 abbrev μ-loop : tie.MeasureT-loop
-μ-loop piece case₀ i₀ case i = length piece - i
+μ-loop failed₀ piece case₀ i₀ failed case i = length piece - i
 
 pub take-piece-spec : {M : Type 1} → statement M
 take-piece-spec =

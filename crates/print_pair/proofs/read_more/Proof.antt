@@ -4,11 +4,10 @@ use Rattle.print_pair.proofs.read_more.Statement.{statement}
 use Rattle.print_pair.proofs.read_more.Tie as tie
 
 returns : tie.Need-returns
-returns c = no-more (c .before .before .before .before .before .args .lines)
+returns c = no-more (c .before .before .before .before .before .before .args .lines)
 
 pub read-more-spec : {M : Type 1} → statement M
 read-more-spec =
     tie.close
     (tie.spec
-    (λ c κs. search needs) (λ c. search needs) (λ c κs. search needs) returns (λ c. search needs) (λ c κs. search needs) (λ c. search needs)
-    (λ c. search needs) (λ c κs. search needs) (λ c. search needs))
+    (λ c κs. search needs) (λ c. search needs) (λ c κs. search needs) returns (λ c. search needs) (λ c. search needs) (λ c κs. search needs) (λ c. search needs))

@@ -5,10 +5,10 @@ use Rattle.read_pairs.proofs.feed.Statement.{statement}
 use Rattle.read_pairs.proofs.feed.Tie as tie
 
 abbrev Inv-loop : tie.InvT-loop
-Inv-loop piece lines₀ i₀ lines i = i ≤ length piece
+Inv-loop failed₀ piece lines₀ i₀ failed lines i = i ≤ length piece
 
 abbrev μ-loop : tie.MeasureT-loop
-μ-loop piece lines₀ i₀ lines i = length piece - i
+μ-loop failed₀ piece lines₀ i₀ failed lines i = length piece - i
 
 pub feed-spec : {M : Type 1} → statement M
 feed-spec =

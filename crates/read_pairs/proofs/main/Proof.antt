@@ -3,10 +3,10 @@ use Rattle.read_pairs.proofs.main.Statement.{statement}
 use Rattle.read_pairs.proofs.main.Tie as tie
 
 abbrev Inv-loop : tie.InvT-loop
-Inv-loop lines₀ turns₀ lines turns = Unit
+Inv-loop failed₀ lines₀ turns₀ failed lines turns = Unit
 
 abbrev μ-loop : tie.MeasureT-loop
-μ-loop lines₀ turns₀ lines turns = turns
+μ-loop failed₀ lines₀ turns₀ failed lines turns = turns
 
 pub main-spec : {M : Type 1} → statement M
 main-spec =

@@ -6,10 +6,10 @@ use Rattle.verification.proofs.verify.Statement.{statement}
 use Rattle.verification.proofs.verify.Tie as tie
 
 abbrev Inv-loop : tie.InvT-loop
-Inv-loop input progress₀ at₀ progress at = at ≤ length input + 1
+Inv-loop failed₀ input progress₀ at₀ failed progress at = at ≤ length input + 1
 
 abbrev μ-loop : tie.MeasureT-loop
-μ-loop input progress₀ at₀ progress at = length input - at
+μ-loop failed₀ input progress₀ at₀ failed progress at = length input - at
 
 pub verify-spec : {M : Type 1} → statement M
 verify-spec =

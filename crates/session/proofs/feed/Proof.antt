@@ -4,25 +4,25 @@ use native.Mathlib.Omega.{arith}
 use denote.Ref.{now}
 use lib.ListN.{length}
 use borrow.Author.Needs.{needs}
-use Rattle.published_rows.proofs.Advance.{advance, nearer}
-use Rattle.published_rows.proofs.feed.Statement.{statement}
-use Rattle.published_rows.proofs.feed.Tie as tie
+use Rattle.session.proofs.Advance.{advance, nearer}
+use Rattle.session.proofs.feed.Statement.{statement}
+use Rattle.session.proofs.feed.Tie as tie
 
 abbrev Inv-loop : tie.InvT-loop
-Inv-loop line₀ piece progress₀ size₀ i₀ line progress size i = length line ≡ length line₀
+Inv-loop failed₀ line₀ piece progress₀ size₀ i₀ failed line progress size i = length line ≡ length line₀
 
 abbrev μ-loop : tie.MeasureT-loop
-μ-loop line₀ piece progress₀ size₀ i₀ line progress size i = length piece - i
+μ-loop failed₀ line₀ piece progress₀ size₀ i₀ failed line progress size i = length piece - i
 
 loop-less : tie.Need-loop-less Inv-loop μ-loop
 loop-less c =
-    let g = c .before .before .before .before .before in
+    let g = c .before .before .before .before .before .before in
     let l = g .before .before .before in
     let piece = now (l .before .before .before .before .args .piece) in
     nearer (omega arith) (advance piece (l .loop .i) (omega arith) (g .gather .ensures))
 
 loop-again : tie.Need-loop-again Inv-loop μ-loop
-loop-again c = let g = c .before .before .before .before .before in g .gather .kept .0 ∙ g .before .before .before .loop .inv
+loop-again c = let g = c .before .before .before .before .before .before in g .gather .kept .0 ∙ g .before .before .before .loop .inv
 
 loop-less-2 : tie.Need-loop-less-2 Inv-loop μ-loop
 loop-less-2 c =

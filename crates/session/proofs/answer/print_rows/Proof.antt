@@ -1,13 +1,13 @@
 use Prim.Native.Nat.{_-_, _≤_}
 use borrow.Author.Needs.{needs}
-use Rattle.replay.proofs.print_rows.Statement.{statement}
-use Rattle.replay.proofs.print_rows.Tie as tie
+use Rattle.session.proofs.answer.print_rows.Statement.{statement}
+use Rattle.session.proofs.answer.print_rows.Tie as tie
 
 abbrev Inv-loop : tie.InvT-loop
-Inv-loop n refusals states rounds i₀ i = i ≤ n
+Inv-loop failed₀ n refusals states rounds i₀ failed i = i ≤ n
 
 abbrev μ-loop : tie.MeasureT-loop
-μ-loop n refusals states rounds i₀ i = n - i
+μ-loop failed₀ n refusals states rounds i₀ failed i = n - i
 
 pub print-rows-spec : {M : Type 1} → statement M
 print-rows-spec =

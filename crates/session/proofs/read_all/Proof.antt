@@ -1,14 +1,14 @@
 use mathlib.Core.Path.{_≡_}
 use lib.ListN.{length}
 use borrow.Author.Needs.{needs}
-use Rattle.published_rows.proofs.read_all.Statement.{statement}
-use Rattle.published_rows.proofs.read_all.Tie as tie
+use Rattle.session.proofs.read_all.Statement.{statement}
+use Rattle.session.proofs.read_all.Tie as tie
 
 abbrev Inv-loop : tie.InvT-loop
-Inv-loop line₀ run₀ turns₀ line run turns = length line ≡ length line₀
+Inv-loop failed₀ many line₀ run₀ turns₀ failed line run turns = length line ≡ length line₀
 
 abbrev μ-loop : tie.MeasureT-loop
-μ-loop line₀ run₀ turns₀ line run turns = turns
+μ-loop failed₀ many line₀ run₀ turns₀ failed line run turns = turns
 
 pub read-all-spec : {M : Type 1} → statement M
 read-all-spec =

@@ -1,0 +1,75 @@
+use Prim.Native.Nat.{ℕ, _+_, _-_, _≤_, _<_}
+use mathlib.Core.Path.{_≡_, refl, _∙_}
+use mathlib.Core.List.{List}
+use native.Mathlib.Omega.{arith}
+use lib.ListN.{length}
+use borrow.Author.Needs.{needs}
+use borrow.Rule.Slice.PartMut.{midOf, putMid, same-len-mid, mid-len}
+use Rattle.io.proofs.Counting.{counts}
+use Rattle.streams.proofs.read_all.Statement.{statement}
+use Rattle.streams.proofs.read_all.Tie as tie
+
+abbrev Inv-loop : tie.InvT-loop
+Inv-loop failed₀ space₀ n₀ failed space n = (n ≤ length space) × (length space ≡ length space₀)
+
+abbrev μ-loop : tie.MeasureT-loop
+μ-loop failed₀ space₀ n₀ failed space n = length space - n
+
+-- the part that a read fills, all that is left, is as long afterwards
+module _ (n : ℕ) (space part : List ℕ) (e : length part ≡ length (midOf n (length space - n) space)) where
+  back : length (putMid n (length space - n) space part) ≡ length space
+  back = same-len-mid n (length space - n) space part e
+
+  room : length part ≡ length space - n
+  room = e ∙ mid-len n (length space) space (omega arith)
+
+loop-holds : tie.Need-loop-holds Inv-loop μ-loop
+loop-holds c = (omega arith, refl)
+
+same-length : tie.Need-same-length Inv-loop μ-loop
+same-length c =
+    let r = c .before .before .before in
+    let l = r .before .before .before .before .loop in
+    back (l .n) (l .space) (r .read .last .1 .0) (r .read .kept .1 .0) ∙ l .inv .1
+
+returns : tie.Need-returns Inv-loop μ-loop
+returns c =
+    let r = c .before .before .before in
+    let l = r .before .before .before .before .loop in
+    counts _ _ (omega (arith, back (l .n) (l .space) (r .read .last .1 .0) (r .read .kept .1 .0), l .inv .0))
+
+add-n : tie.Need-add-n Inv-loop μ-loop
+add-n c =
+    let r = c .before .before .before in
+    let l = r .before .before .before .before .loop in
+    omega (arith, room (l .n) (l .space) (r .read .last .1 .0) (r .read .kept .1 .0), r .read .ensures .0 .0)
+
+loop-less : tie.Need-loop-less Inv-loop μ-loop
+loop-less c =
+    let r = c .before .before .before in
+    let l = r .before .before .before .before .loop in
+    let part = r .read .last .1 .0 in
+    let k = r .read .kept .1 .0 in
+    omega (arith, room (l .n) (l .space) part k, back (l .n) (l .space) part k, r .read .ensures .0 .0)
+
+loop-again : tie.Need-loop-again Inv-loop μ-loop
+loop-again c =
+    let r = c .before .before .before in
+    let l = r .before .before .before .before .loop in
+    let part = r .read .last .1 .0 in
+    let k = r .read .kept .1 .0 in
+    let b = back (l .n) (l .space) part k in
+    (omega (arith, b, room (l .n) (l .space) part k, r .read .ensures .0 .0), b ∙ l .inv .1)
+
+same-length-2 : tie.Need-same-length-2 Inv-loop μ-loop
+same-length-2 c = c .before .loop .inv .1
+
+returns-2 : tie.Need-returns-2 Inv-loop μ-loop
+returns-2 c = counts _ _ (c .before .loop .inv .0)
+
+pub read-all-spec : {M : Type 1} → statement M
+read-all-spec =
+    tie.close
+    (tie.spec
+    Inv-loop μ-loop loop-holds (λ c. search needs) (λ c. search needs) (λ c. search needs) (λ c κs. search needs)
+    same-length returns add-n loop-less loop-again same-length-2 returns-2)
