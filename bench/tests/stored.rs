@@ -69,6 +69,11 @@ fn read_pairs() {
 }
 
 #[test]
+fn written_lines() {
+    written("tests/written_lines.py", "crates/test_writing");
+}
+
+#[test]
 fn print_cases() {
     written("tests/print_cases.py", "crates/print_cases");
 }
