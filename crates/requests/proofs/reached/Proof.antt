@@ -4,7 +4,23 @@ use borrow.Author.Needs.{needs}
 use Rattle.requests.proofs.reached.Statement.{statement}
 use Rattle.requests.proofs.reached.Tie as tie
 
-pub reached-spec : {M : Type 1} → statement M
+returns : tie.Need-returns
 unfolding reached
+returns c =
+    let side-of = c .before .before in
+    simp (
+      c .advance .ensures,
+      c .before .stride-need .ensures,
+      side-of .side-of .ensures,
+      side-of .before .integrator-of .ensures,
+    )
+
+pub reached-spec : {M : Type 1} → statement M
 reached-spec =
-    tie.close (tie.spec (λ c κs. search needs) (λ c κs. search needs) (λ c κs. search needs) (λ c κs. search needs) (λ c. simp (c .advance .ensures, c .before .stride-need .ensures, c .before .before .side-of .ensures, c .before .before .before .integrator-of .ensures)))
+    tie.close
+    (tie.spec
+    (λ c κs. search needs)
+    (λ c κs. search needs)
+    (λ c κs. search needs)
+    (λ c κs. search needs)
+    returns)

@@ -5,6 +5,36 @@ use borrow.Author.Needs.{needs}
 use Rattle.near_earth.proofs.finite.finite_drag.Statement.{statement}
 use Rattle.near_earth.proofs.finite.finite_drag.Tie as tie
 
-pub finite-drag-spec : {M : Type 1} → statement M
+returns : tie.Need-returns
 unfolding finiteDrag round units odd size span climb trailingZeros ofBits neg
-finite-drag-spec = tie.close (tie.spec (λ c κs. search needs) (λ c κs. search needs) (λ c κs. search needs) (λ c κs. search needs) (λ c κs. search needs) (λ c κs. search needs) (λ c κs. search needs) (λ c κs. search needs) (λ c κs. search needs) (λ c. simp (c .is-finite9 .ensures, c .before .is-finite8 .ensures, c .before .before .is-finite7 .ensures, c .before .before .before .is-finite6 .ensures, c .before .before .before .before .is-finite5 .ensures, c .before .before .before .before .before .is-finite4 .ensures, c .before .before .before .before .before .before .is-finite3 .ensures, c .before .before .before .before .before .before .before .is-finite2 .ensures, c .before .before .before .before .before .before .before .before .is-finite .ensures)))
+returns c =
+    let is-finite7 = c .before .before in
+    let is-finite5 = is-finite7 .before .before in
+    let is-finite3 = is-finite5 .before .before in
+    let is-finite = is-finite3 .before .before in
+    simp (
+      c .is-finite9 .ensures,
+      c .before .is-finite8 .ensures,
+      is-finite7 .is-finite7 .ensures,
+      is-finite7 .before .is-finite6 .ensures,
+      is-finite5 .is-finite5 .ensures,
+      is-finite5 .before .is-finite4 .ensures,
+      is-finite3 .is-finite3 .ensures,
+      is-finite3 .before .is-finite2 .ensures,
+      is-finite .is-finite .ensures,
+    )
+
+pub finite-drag-spec : {M : Type 1} → statement M
+finite-drag-spec =
+    tie.close
+    (tie.spec
+    (λ c κs. search needs)
+    (λ c κs. search needs)
+    (λ c κs. search needs)
+    (λ c κs. search needs)
+    (λ c κs. search needs)
+    (λ c κs. search needs)
+    (λ c κs. search needs)
+    (λ c κs. search needs)
+    (λ c κs. search needs)
+    returns)

@@ -5,6 +5,26 @@ use borrow.Author.Needs.{needs}
 use Rattle.near_earth.proofs.finite.finite_near.Statement.{statement}
 use Rattle.near_earth.proofs.finite.finite_near.Tie as tie
 
-pub finite-near-spec : {M : Type 1} → statement M
+returns : tie.Need-returns
 unfolding finiteNear round units odd size span climb trailingZeros ofBits neg
-finite-near-spec = tie.close (tie.spec (λ c κs. search needs) (λ c κs. search needs) (λ c κs. search needs) (λ c κs. search needs) (λ c κs. search needs) (λ c. simp (c .finite-terms .ensures, c .before .finite-rates .ensures, c .before .before .finite-higher .ensures, c .before .before .before .finite-drag .ensures, c .before .before .before .before .finite-elements .ensures)))
+returns c =
+    let finite-higher = c .before .before in
+    let finite-elements = finite-higher .before .before in
+    simp (
+      c .finite-terms .ensures,
+      c .before .finite-rates .ensures,
+      finite-higher .finite-higher .ensures,
+      finite-higher .before .finite-drag .ensures,
+      finite-elements .finite-elements .ensures,
+    )
+
+pub finite-near-spec : {M : Type 1} → statement M
+finite-near-spec =
+    tie.close
+    (tie.spec
+    (λ c κs. search needs)
+    (λ c κs. search needs)
+    (λ c κs. search needs)
+    (λ c κs. search needs)
+    (λ c κs. search needs)
+    returns)

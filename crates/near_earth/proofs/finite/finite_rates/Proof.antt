@@ -5,6 +5,23 @@ use borrow.Author.Needs.{needs}
 use Rattle.near_earth.proofs.finite.finite_rates.Statement.{statement}
 use Rattle.near_earth.proofs.finite.finite_rates.Tie as tie
 
-pub finite-rates-spec : {M : Type 1} → statement M
+returns : tie.Need-returns
 unfolding finiteRates round units odd size span climb trailingZeros ofBits neg
-finite-rates-spec = tie.close (tie.spec (λ c κs. search needs) (λ c κs. search needs) (λ c κs. search needs) (λ c κs. search needs) (λ c. simp (c .is-finite4 .ensures, c .before .is-finite3 .ensures, c .before .before .is-finite2 .ensures, c .before .before .before .is-finite .ensures)))
+returns c =
+    let is-finite2 = c .before .before in
+    simp (
+      c .is-finite4 .ensures,
+      c .before .is-finite3 .ensures,
+      is-finite2 .is-finite2 .ensures,
+      is-finite2 .before .is-finite .ensures,
+    )
+
+pub finite-rates-spec : {M : Type 1} → statement M
+finite-rates-spec =
+    tie.close
+    (tie.spec
+    (λ c κs. search needs)
+    (λ c κs. search needs)
+    (λ c κs. search needs)
+    (λ c κs. search needs)
+    returns)

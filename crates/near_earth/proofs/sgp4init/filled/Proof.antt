@@ -5,6 +5,36 @@ use borrow.Author.Needs.{needs}
 use Rattle.near_earth.proofs.sgp4init.filled.Statement.{statement}
 use Rattle.near_earth.proofs.sgp4init.filled.Tie as tie
 
-pub filled-spec : {M : Type 1} → statement M
+returns : tie.Need-returns
 unfolding filled round units odd size span climb trailingZeros ofBits neg
-filled-spec = tie.close (tie.spec (λ c κs. search needs) (λ c κs. search needs) (λ c κs. search needs) (λ c κs. search needs) (λ c κs. search needs) (λ c κs. search needs) (λ c κs. search needs) (λ c κs. search needs) (λ c κs. search needs) (λ c. simp (c .recovered .ensures, c .before .kept .ensures, c .before .before .terms .ensures, c .before .before .before .rates .ensures, c .before .before .before .before .higher .ensures, c .before .before .before .before .before .simple .ensures, c .before .before .before .before .before .before .drag .ensures, c .before .before .before .before .before .before .before .shape .ensures, c .before .before .before .before .before .before .before .before .atmosphere .ensures)))
+returns c =
+    let terms = c .before .before in
+    let higher = terms .before .before in
+    let drag = higher .before .before in
+    let atmosphere = drag .before .before in
+    simp (
+      c .recovered .ensures,
+      c .before .kept .ensures,
+      terms .terms .ensures,
+      terms .before .rates .ensures,
+      higher .higher .ensures,
+      higher .before .simple .ensures,
+      drag .drag .ensures,
+      drag .before .shape .ensures,
+      atmosphere .atmosphere .ensures,
+    )
+
+pub filled-spec : {M : Type 1} → statement M
+filled-spec =
+    tie.close
+    (tie.spec
+    (λ c κs. search needs)
+    (λ c κs. search needs)
+    (λ c κs. search needs)
+    (λ c κs. search needs)
+    (λ c κs. search needs)
+    (λ c κs. search needs)
+    (λ c κs. search needs)
+    (λ c κs. search needs)
+    (λ c κs. search needs)
+    returns)

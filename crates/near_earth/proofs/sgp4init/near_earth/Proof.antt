@@ -5,6 +5,24 @@ use borrow.Author.Needs.{needs}
 use Rattle.near_earth.proofs.sgp4init.near_earth.Statement.{statement}
 use Rattle.near_earth.proofs.sgp4init.near_earth.Tie as tie
 
-pub near-earth-spec : {M : Type 1} → statement M
+returns : tie.Need-returns
 unfolding nearEarth round units odd size span climb trailingZeros ofBits neg
-near-earth-spec = tie.close (tie.spec (λ c κs. search needs) (λ c κs. search needs) (λ c. simp (c .filled .ensures, ← c .before .before .guard .ensures, c .before .if1 .taken)) (λ c κs. search needs) (λ c. simp (c .zeroed .ensures, ← c .before .before .guard .ensures, c .before .if1 .left)))
+returns c =
+    let guard = c .before .before in
+    simp (c .filled .ensures, ← guard .guard .ensures, c .before .if1 .taken)
+
+returns-2 : tie.Need-returns-2
+unfolding nearEarth round units odd size span climb trailingZeros ofBits neg
+returns-2 c =
+    let guard = c .before .before in
+    simp (c .zeroed .ensures, ← guard .guard .ensures, c .before .if1 .left)
+
+pub near-earth-spec : {M : Type 1} → statement M
+near-earth-spec =
+    tie.close
+    (tie.spec
+    (λ c κs. search needs)
+    (λ c κs. search needs)
+    returns
+    (λ c κs. search needs)
+    returns-2)

@@ -5,6 +5,17 @@ use borrow.Author.Needs.{needs}
 use Rattle.near_earth.proofs.sgp4init.shape.Statement.{statement}
 use Rattle.near_earth.proofs.sgp4init.shape.Tie as tie
 
-pub shape-spec : {M : Type 1} → statement M
+returns : tie.Need-returns
 unfolding shape round units odd size span climb trailingZeros ofBits neg
-shape-spec = tie.close (tie.spec (λ c κs. search needs) (λ c κs. search needs) (λ c κs. search needs) (λ c. simp (c .seven-halves .ensures, c .before .before .pow4 .ensures, c .before .before .before .abs .ensures)))
+returns c =
+    let pow4 = c .before .before in
+    simp (c .seven-halves .ensures, pow4 .pow4 .ensures, pow4 .before .abs .ensures)
+
+pub shape-spec : {M : Type 1} → statement M
+shape-spec =
+    tie.close
+    (tie.spec
+    (λ c κs. search needs)
+    (λ c κs. search needs)
+    (λ c κs. search needs)
+    returns)

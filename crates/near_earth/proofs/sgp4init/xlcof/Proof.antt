@@ -5,6 +5,24 @@ use borrow.Author.Needs.{needs}
 use Rattle.near_earth.proofs.sgp4init.xlcof.Statement.{statement}
 use Rattle.near_earth.proofs.sgp4init.xlcof.Tie as tie
 
-pub xlcof-spec : {M : Type 1} → statement M
+returns : tie.Need-returns
 unfolding xlcof round units odd size span climb trailingZeros ofBits neg
-xlcof-spec = tie.close (tie.spec (λ c κs. search needs) (λ c κs. search needs) (λ c. simp (c .before .before .j3oj2 .ensures, ← c .before .abs .ensures, c .if1 .taken)) (λ c κs. search needs) (λ c. simp (c .temp4 .ensures, c .before .before .before .j3oj2 .ensures, ← c .before .before .abs .ensures, c .before .if1 .left)))
+returns c =
+    let j3oj2 = c .before .before in
+    simp (j3oj2 .j3oj2 .ensures, ← c .before .abs .ensures, c .if1 .taken)
+
+returns-2 : tie.Need-returns-2
+unfolding xlcof round units odd size span climb trailingZeros ofBits neg
+returns-2 c =
+    let abs = c .before .before in
+    simp (c .temp4 .ensures, abs .before .j3oj2 .ensures, ← abs .abs .ensures, c .before .if1 .left)
+
+pub xlcof-spec : {M : Type 1} → statement M
+xlcof-spec =
+    tie.close
+    (tie.spec
+    (λ c κs. search needs)
+    (λ c κs. search needs)
+    returns
+    (λ c κs. search needs)
+    returns-2)

@@ -5,6 +5,36 @@ use borrow.Author.Needs.{needs}
 use Rattle.sgp4.proofs.deep_space.averaged.Statement.{statement}
 use Rattle.sgp4.proofs.deep_space.averaged.Tie as tie
 
-pub averaged-spec : {M : Type 1} → statement M
+returns : tie.Need-returns
 unfolding averaged round units odd size span climb trailingZeros ofBits neg
-averaged-spec = tie.close (tie.spec (λ c κs. search needs) (λ c. simp (← c .before .outside .ensures, c .if1 .taken)) (λ c κs. search needs) (λ c κs. search needs) (λ c κs. search needs) (λ c κs. search needs) (λ c κs. search needs) (λ c. simp (c .perturbed .ensures, c .before .righted .ensures, c .before .before .dpper .ensures, c .before .before .before .averages .ensures, c .before .before .before .before .angles .ensures, ← c .before .before .before .before .before .before .outside .ensures, c .before .before .before .before .before .if1 .left)))
+returns c =
+    simp (← c .before .outside .ensures, c .if1 .taken)
+
+returns-2 : tie.Need-returns-2
+unfolding averaged round units odd size span climb trailingZeros ofBits neg
+returns-2 c =
+    let dpper = c .before .before in
+    let angles = dpper .before .before in
+    let outside = angles .before .before in
+    simp (
+      c .perturbed .ensures,
+      c .before .righted .ensures,
+      dpper .dpper .ensures,
+      dpper .before .averages .ensures,
+      angles .angles .ensures,
+      ← outside .outside .ensures,
+      angles .before .if1 .left,
+    )
+
+pub averaged-spec : {M : Type 1} → statement M
+averaged-spec =
+    tie.close
+    (tie.spec
+    (λ c κs. search needs)
+    returns
+    (λ c κs. search needs)
+    (λ c κs. search needs)
+    (λ c κs. search needs)
+    (λ c κs. search needs)
+    (λ c κs. search needs)
+    returns-2)

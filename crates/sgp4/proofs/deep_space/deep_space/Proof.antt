@@ -5,6 +5,26 @@ use borrow.Author.Needs.{needs}
 use Rattle.sgp4.proofs.deep_space.deep_space.Statement.{statement}
 use Rattle.sgp4.proofs.deep_space.deep_space.Tie as tie
 
-pub deep-space-spec : {M : Type 1} → statement M
+returns : tie.Need-returns
 unfolding deepSpace round units odd size span climb trailingZeros ofBits neg
-deep-space-spec = tie.close (tie.spec (λ c κs. search needs) (λ c κs. search needs) (λ c κs. search needs) (λ c κs. search needs) (λ c κs. search needs) (λ c. simp (c .moved .ensures, c .before .updated .ensures, c .before .before .dspace .ensures, c .before .before .before .handed .ensures, c .before .before .before .before .secular .ensures)))
+returns c =
+    let dspace = c .before .before in
+    let secular = dspace .before .before in
+    simp (
+      c .moved .ensures,
+      c .before .updated .ensures,
+      dspace .dspace .ensures,
+      dspace .before .handed .ensures,
+      secular .secular .ensures,
+    )
+
+pub deep-space-spec : {M : Type 1} → statement M
+deep-space-spec =
+    tie.close
+    (tie.spec
+    (λ c κs. search needs)
+    (λ c κs. search needs)
+    (λ c κs. search needs)
+    (λ c κs. search needs)
+    (λ c κs. search needs)
+    returns)

@@ -7,6 +7,34 @@ use borrow.Author.Needs.{needs}
 use Rattle.sgp4.proofs.deep_space.moved.Statement.{statement}
 use Rattle.sgp4.proofs.deep_space.moved.Tie as tie
 
-pub moved-spec : {M : Type 1} → statement M
+returns : tie.Need-returns
 unfolding moved mean meanFrom round units odd size span climb trailingZeros ofBits neg
-moved-spec = tie.close (tie.spec (λ c κs. search needs) (λ c. simp (← c .before .no-motion .ensures, c .if1 .taken)) (λ c κs. search needs) (λ c κs. search needs) (λ c κs. search needs) (λ c κs. search needs) (λ c. simp (c .averaged .ensures, c .before .mean .ensures, c .before .before .two-thirds .ensures, c .before .before .before .before .xke .ensures, ← c .before .before .before .before .before .before .no-motion .ensures, c .before .before .before .before .before .if1 .left)))
+returns c =
+    simp (← c .before .no-motion .ensures, c .if1 .taken)
+
+returns-2 : tie.Need-returns-2
+unfolding moved mean meanFrom round units odd size span climb trailingZeros ofBits neg
+returns-2 c =
+    let two-thirds = c .before .before in
+    let xke = two-thirds .before .before in
+    let no-motion = xke .before .before in
+    simp (
+      c .averaged .ensures,
+      c .before .mean .ensures,
+      two-thirds .two-thirds .ensures,
+      xke .xke .ensures,
+      ← no-motion .no-motion .ensures,
+      xke .before .if1 .left,
+    )
+
+pub moved-spec : {M : Type 1} → statement M
+moved-spec =
+    tie.close
+    (tie.spec
+    (λ c κs. search needs)
+    returns
+    (λ c κs. search needs)
+    (λ c κs. search needs)
+    (λ c κs. search needs)
+    (λ c κs. search needs)
+    returns-2)

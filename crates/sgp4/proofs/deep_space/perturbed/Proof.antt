@@ -5,6 +5,34 @@ use borrow.Author.Needs.{needs}
 use Rattle.sgp4.proofs.deep_space.perturbed.Statement.{statement}
 use Rattle.sgp4.proofs.deep_space.perturbed.Tie as tie
 
-pub perturbed-spec : {M : Type 1} → statement M
+returns : tie.Need-returns
 unfolding perturbed round units odd size span climb trailingZeros ofBits neg
-perturbed-spec = tie.close (tie.spec (λ c κs. search needs) (λ c. simp (← c .before .no-ellipse .ensures, c .if1 .taken)) (λ c κs. search needs) (λ c κs. search needs) (λ c κs. search needs) (λ c κs. search needs) (λ c. simp (c .periodics .ensures, c .before .anew .ensures, c .before .before .inclined .ensures, c .before .before .before .sin-cos .ensures .1 .0, c .before .before .before .sin-cos .ensures .1 .1, ← c .before .before .before .before .before .no-ellipse .ensures, c .before .before .before .before .if1 .left)))
+returns c =
+    simp (← c .before .no-ellipse .ensures, c .if1 .taken)
+
+returns-2 : tie.Need-returns-2
+unfolding perturbed round units odd size span climb trailingZeros ofBits neg
+returns-2 c =
+    let inclined = c .before .before in
+    let if1 = inclined .before .before in
+    simp (
+      c .periodics .ensures,
+      c .before .anew .ensures,
+      inclined .inclined .ensures,
+      inclined .before .sin-cos .ensures .1 .0,
+      inclined .before .sin-cos .ensures .1 .1,
+      ← if1 .before .no-ellipse .ensures,
+      if1 .if1 .left,
+    )
+
+pub perturbed-spec : {M : Type 1} → statement M
+perturbed-spec =
+    tie.close
+    (tie.spec
+    (λ c κs. search needs)
+    returns
+    (λ c κs. search needs)
+    (λ c κs. search needs)
+    (λ c κs. search needs)
+    (λ c κs. search needs)
+    returns-2)

@@ -5,6 +5,16 @@ use borrow.Author.Needs.{needs}
 use Rattle.state.proofs.kepler.corrected.Statement.{statement}
 use Rattle.state.proofs.kepler.corrected.Tie as tie
 
-pub corrected-spec : {M : Type 1} → statement M
+returns : tie.Need-returns
 unfolding corrected round units odd size span climb trailingZeros ofBits neg
-corrected-spec = tie.close (tie.spec (λ c κs. search needs) (λ c κs. search needs) (λ c. simp (c .held .ensures, c .before .before .before .before .before .before .sin-cos .ensures .1 .0, c .before .before .before .before .before .before .sin-cos .ensures .1 .1)))
+returns c =
+    let sin-cos = c .before .before .before .before .before .before in
+    simp (c .held .ensures, sin-cos .sin-cos .ensures .1 .0, sin-cos .sin-cos .ensures .1 .1)
+
+pub corrected-spec : {M : Type 1} → statement M
+corrected-spec =
+    tie.close
+    (tie.spec
+    (λ c κs. search needs)
+    (λ c κs. search needs)
+    returns)

@@ -5,6 +5,26 @@ use borrow.Author.Needs.{needs}
 use Rattle.state.proofs.orientation.state.Statement.{statement}
 use Rattle.state.proofs.orientation.state.Tie as tie
 
-pub state-spec : {M : Type 1} → statement M
+returns : tie.Need-returns
 unfolding state round units odd size span climb trailingZeros ofBits neg
-state-spec = tie.close (tie.spec (λ c κs. search needs) (λ c κs. search needs) (λ c κs. search needs) (λ c κs. search needs) (λ c κs. search needs) (λ c. simp (c .oriented .ensures, c .before .vkmpersec .ensures, c .before .before .sin-cos3 .ensures .0, c .before .before .before .sin-cos2 .ensures .0, c .before .before .before .before .sin-cos .ensures .0)))
+returns c =
+    let sin-cos3 = c .before .before in
+    let sin-cos = sin-cos3 .before .before in
+    simp (
+      c .oriented .ensures,
+      c .before .vkmpersec .ensures,
+      sin-cos3 .sin-cos3 .ensures .0,
+      sin-cos3 .before .sin-cos2 .ensures .0,
+      sin-cos .sin-cos .ensures .0,
+    )
+
+pub state-spec : {M : Type 1} → statement M
+state-spec =
+    tie.close
+    (tie.spec
+    (λ c κs. search needs)
+    (λ c κs. search needs)
+    (λ c κs. search needs)
+    (λ c κs. search needs)
+    (λ c κs. search needs)
+    returns)

@@ -5,6 +5,16 @@ use borrow.Author.Needs.{needs}
 use Rattle.state.proofs.periodics.long_period.Statement.{statement}
 use Rattle.state.proofs.periodics.long_period.Tie as tie
 
-pub long-period-spec : {M : Type 1} → statement M
+returns : tie.Need-returns
 unfolding longPeriod round units odd size span climb trailingZeros ofBits neg
-long-period-spec = tie.close (tie.spec (λ c κs. search needs) (λ c κs. search needs) (λ c. simp (c .rem-turn .ensures, c .before .before .before .before .before .before .before .before .before .before .before .sin-cos .ensures .1 .0, c .before .before .before .before .before .before .before .before .before .before .before .sin-cos .ensures .1 .1)))
+returns c =
+    let sin-cos = c .before .before .before .before .before .before .before .before .before .before .before in
+    simp (c .rem-turn .ensures, sin-cos .sin-cos .ensures .1 .0, sin-cos .sin-cos .ensures .1 .1)
+
+pub long-period-spec : {M : Type 1} → statement M
+long-period-spec =
+    tie.close
+    (tie.spec
+    (λ c κs. search needs)
+    (λ c κs. search needs)
+    returns)

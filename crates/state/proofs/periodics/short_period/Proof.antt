@@ -5,6 +5,16 @@ use borrow.Author.Needs.{needs}
 use Rattle.state.proofs.periodics.short_period.Statement.{statement}
 use Rattle.state.proofs.periodics.short_period.Tie as tie
 
-pub short-period-spec : {M : Type 1} → statement M
+returns : tie.Need-returns
 unfolding shortPeriod round units odd size span climb trailingZeros ofBits neg
-short-period-spec = tie.close (tie.spec (λ c κs. search needs) (λ c κs. search needs) (λ c. simp (c .before .xke2 .ensures, c .before .before .before .before .before .before .before .xke .ensures)))
+returns c =
+    let xke = c .before .before .before .before .before .before .before in
+    simp (c .before .xke2 .ensures, xke .xke .ensures)
+
+pub short-period-spec : {M : Type 1} → statement M
+short-period-spec =
+    tie.close
+    (tie.spec
+    (λ c κs. search needs)
+    (λ c κs. search needs)
+    returns)

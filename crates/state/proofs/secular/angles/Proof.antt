@@ -5,6 +5,23 @@ use borrow.Author.Needs.{needs}
 use Rattle.state.proofs.secular.angles.Statement.{statement}
 use Rattle.state.proofs.secular.angles.Tie as tie
 
-pub angles-spec : {M : Type 1} → statement M
+returns : tie.Need-returns
 unfolding angles round units odd size span climb trailingZeros ofBits neg
-angles-spec = tie.close (tie.spec (λ c κs. search needs) (λ c κs. search needs) (λ c κs. search needs) (λ c κs. search needs) (λ c. simp (c .rem-turn4 .ensures, c .before .rem-turn3 .ensures, c .before .before .rem-turn2 .ensures, c .before .before .before .rem-turn .ensures)))
+returns c =
+    let rem-turn2 = c .before .before in
+    simp (
+      c .rem-turn4 .ensures,
+      c .before .rem-turn3 .ensures,
+      rem-turn2 .rem-turn2 .ensures,
+      rem-turn2 .before .rem-turn .ensures,
+    )
+
+pub angles-spec : {M : Type 1} → statement M
+angles-spec =
+    tie.close
+    (tie.spec
+    (λ c κs. search needs)
+    (λ c κs. search needs)
+    (λ c κs. search needs)
+    (λ c κs. search needs)
+    returns)

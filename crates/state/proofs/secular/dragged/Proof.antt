@@ -5,6 +5,23 @@ use borrow.Author.Needs.{needs}
 use Rattle.state.proofs.secular.dragged.Statement.{statement}
 use Rattle.state.proofs.secular.dragged.Tie as tie
 
-pub dragged-spec : {M : Type 1} → statement M
+returns : tie.Need-returns
 unfolding dragged round units odd size span climb trailingZeros ofBits neg
-dragged-spec = tie.close (tie.spec (λ c κs. search needs) (λ c κs. search needs) (λ c κs. search needs) (λ c κs. search needs) (λ c. simp (c .higher-drag .ensures, c .before .sin .ensures, c .before .before .before .delomg-delm .ensures, c .before .before .before .before .cos .ensures)))
+returns c =
+    let delomg-delm = c .before .before .before in
+    simp (
+      c .higher-drag .ensures,
+      c .before .sin .ensures,
+      delomg-delm .delomg-delm .ensures,
+      delomg-delm .before .cos .ensures,
+    )
+
+pub dragged-spec : {M : Type 1} → statement M
+dragged-spec =
+    tie.close
+    (tie.spec
+    (λ c κs. search needs)
+    (λ c κs. search needs)
+    (λ c κs. search needs)
+    (λ c κs. search needs)
+    returns)

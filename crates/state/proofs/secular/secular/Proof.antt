@@ -5,6 +5,22 @@ use borrow.Author.Needs.{needs}
 use Rattle.state.proofs.secular.secular.Statement.{statement}
 use Rattle.state.proofs.secular.secular.Tie as tie
 
-pub secular-spec : {M : Type 1} → statement M
+returns : tie.Need-returns
 unfolding secular round units odd size span climb trailingZeros ofBits neg
-secular-spec = tie.close (tie.spec (λ c κs. search needs) (λ c. simp (c .before .gravity .ensures, c .if1 .taken)) (λ c κs. search needs) (λ c. simp (c .dragged .ensures, c .before .before .gravity .ensures, c .before .if1 .left)))
+returns c =
+    simp (c .before .gravity .ensures, c .if1 .taken)
+
+returns-2 : tie.Need-returns-2
+unfolding secular round units odd size span climb trailingZeros ofBits neg
+returns-2 c =
+    let gravity = c .before .before in
+    simp (c .dragged .ensures, gravity .gravity .ensures, c .before .if1 .left)
+
+pub secular-spec : {M : Type 1} → statement M
+secular-spec =
+    tie.close
+    (tie.spec
+    (λ c κs. search needs)
+    returns
+    (λ c κs. search needs)
+    returns-2)

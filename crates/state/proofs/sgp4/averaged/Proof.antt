@@ -5,6 +5,31 @@ use borrow.Author.Needs.{needs}
 use Rattle.state.proofs.sgp4.averaged.Statement.{statement}
 use Rattle.state.proofs.sgp4.averaged.Tie as tie
 
-pub averaged-spec : {M : Type 1} → statement M
+returns : tie.Need-returns
 unfolding averagedFrom round units odd size span climb trailingZeros ofBits neg
-averaged-spec = tie.close (tie.spec (λ c κs. search needs) (λ c. simp (← c .before .outside .ensures, c .if1 .taken)) (λ c κs. search needs) (λ c κs. search needs) (λ c κs. search needs) (λ c. simp (c .periodics .ensures, c .before .before .unperturbed .ensures, c .before .before .before .angles .ensures, ← c .before .before .before .before .before .outside .ensures, c .before .before .before .before .if1 .left)))
+returns c =
+    simp (← c .before .outside .ensures, c .if1 .taken)
+
+returns-2 : tie.Need-returns-2
+unfolding averagedFrom round units odd size span climb trailingZeros ofBits neg
+returns-2 c =
+    let unperturbed = c .before .before in
+    let if1 = unperturbed .before .before in
+    simp (
+      c .periodics .ensures,
+      unperturbed .unperturbed .ensures,
+      unperturbed .before .angles .ensures,
+      ← if1 .before .outside .ensures,
+      if1 .if1 .left,
+    )
+
+pub averaged-spec : {M : Type 1} → statement M
+averaged-spec =
+    tie.close
+    (tie.spec
+    (λ c κs. search needs)
+    returns
+    (λ c κs. search needs)
+    (λ c κs. search needs)
+    (λ c κs. search needs)
+    returns-2)

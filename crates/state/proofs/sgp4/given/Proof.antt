@@ -5,6 +5,20 @@ use borrow.Author.Needs.{needs}
 use Rattle.state.proofs.sgp4.given.Statement.{statement}
 use Rattle.state.proofs.sgp4.given.Tie as tie
 
-pub given-spec : {M : Type 1} → statement M
+returns : tie.Need-returns
 unfolding given round units odd size span climb trailingZeros ofBits neg
-given-spec = tie.close (tie.spec (λ c κs. search needs) (λ c. simp (← c .before .finite-state .ensures, c .if1 .taken)) (λ c. simp (← c .before .finite-state .ensures, c .if1 .left)))
+returns c =
+    simp (← c .before .finite-state .ensures, c .if1 .taken)
+
+returns-2 : tie.Need-returns-2
+unfolding given round units odd size span climb trailingZeros ofBits neg
+returns-2 c =
+    simp (← c .before .finite-state .ensures, c .if1 .left)
+
+pub given-spec : {M : Type 1} → statement M
+given-spec =
+    tie.close
+    (tie.spec
+    (λ c κs. search needs)
+    returns
+    returns-2)

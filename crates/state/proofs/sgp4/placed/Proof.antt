@@ -5,6 +5,23 @@ use borrow.Author.Needs.{needs}
 use Rattle.state.proofs.sgp4.placed.Statement.{statement}
 use Rattle.state.proofs.sgp4.placed.Tie as tie
 
-pub placed-spec : {M : Type 1} → statement M
+returns : tie.Need-returns
 unfolding placed round units odd size span climb trailingZeros ofBits neg
-placed-spec = tie.close (tie.spec (λ c κs. search needs) (λ c. simp (← c .before .decayed .ensures, c .if1 .taken)) (λ c κs. search needs) (λ c κs. search needs) (λ c. simp (c .given .ensures, c .before .state .ensures, ← c .before .before .before .decayed .ensures, c .before .before .if1 .left)))
+returns c =
+    simp (← c .before .decayed .ensures, c .if1 .taken)
+
+returns-2 : tie.Need-returns-2
+unfolding placed round units odd size span climb trailingZeros ofBits neg
+returns-2 c =
+    let if1 = c .before .before in
+    simp (c .given .ensures, c .before .state .ensures, ← if1 .before .decayed .ensures, if1 .if1 .left)
+
+pub placed-spec : {M : Type 1} → statement M
+placed-spec =
+    tie.close
+    (tie.spec
+    (λ c κs. search needs)
+    returns
+    (λ c κs. search needs)
+    (λ c κs. search needs)
+    returns-2)

@@ -5,6 +5,31 @@ use borrow.Author.Needs.{needs}
 use Rattle.state.proofs.sgp4.shortened.Statement.{statement}
 use Rattle.state.proofs.sgp4.shortened.Tie as tie
 
-pub shortened-spec : {M : Type 1} → statement M
+returns : tie.Need-returns
 unfolding shortenedFrom round units odd size span climb trailingZeros ofBits neg
-shortened-spec = tie.close (tie.spec (λ c κs. search needs) (λ c. simp (← c .before .negative-latus .ensures, c .if1 .taken)) (λ c κs. search needs) (λ c κs. search needs) (λ c κs. search needs) (λ c. simp (c .placed .ensures, c .before .short-period .ensures, c .before .before .plane .ensures, ← c .before .before .before .before .negative-latus .ensures, c .before .before .before .if1 .left)))
+returns c =
+    simp (← c .before .negative-latus .ensures, c .if1 .taken)
+
+returns-2 : tie.Need-returns-2
+unfolding shortenedFrom round units odd size span climb trailingZeros ofBits neg
+returns-2 c =
+    let plane = c .before .before in
+    let negative-latus = plane .before .before in
+    simp (
+      c .placed .ensures,
+      c .before .short-period .ensures,
+      plane .plane .ensures,
+      ← negative-latus .negative-latus .ensures,
+      plane .before .if1 .left,
+    )
+
+pub shortened-spec : {M : Type 1} → statement M
+shortened-spec =
+    tie.close
+    (tie.spec
+    (λ c κs. search needs)
+    returns
+    (λ c κs. search needs)
+    (λ c κs. search needs)
+    (λ c κs. search needs)
+    returns-2)
