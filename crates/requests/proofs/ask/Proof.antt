@@ -1,4 +1,3 @@
-use borrow.Author.Needs.{needs}
 use Rattle.requests.proofs.Answers.{in-range, out-of-range}
 use Rattle.requests.proofs.ask.Statement.{statement}
 use Rattle.requests.proofs.ask.Tie as tie
@@ -15,4 +14,4 @@ returns-2 c = out-of-range _ _ _ _ _ (c .before .before .in-range .ensures) (c .
 pub ask-spec : {M : Type 1} → statement M
 ask-spec =
     tie.close
-    (tie.spec (λ c κs. search needs) (λ c κs. search needs) (λ c κs. search needs) returns (λ c κs. search needs) returns-2)
+    (tie.spec (λ c κs. tt) (λ c κs. tt) (λ c κs. tt) returns (λ c κs. tt) returns-2)

@@ -1,7 +1,6 @@
 use mathlib.Core.Path.{ap}
 use Rattle.sgp4.specs.declared.pairs.Rows.{Rows}
 use Rattle.requests.proofs.Answers.{one-then, both-true, in-range}
-use borrow.Author.Needs.{needs}
 use Rattle.requests.proofs.ask_two.Statement.{statement}
 use Rattle.requests.proofs.ask_two.Tie as tie
 
@@ -20,11 +19,11 @@ pub ask-two-spec : {M : Type 1} → statement M
 ask-two-spec =
     tie.close
     (tie.spec
-    (λ c κs. search needs)
-    (λ c κs. search needs)
-    (λ c κs. search needs)
-    (λ c κs. search needs)
-    (λ c κs. search needs)
+    (λ c κs. tt)
+    (λ c κs. tt)
+    (λ c κs. tt)
+    (λ c κs. tt)
+    (λ c κs. tt)
     returns
-    (λ c κs. search needs)
+    (λ c κs. tt)
     (λ c. c .ask-each .ensures))

@@ -21,4 +21,4 @@ pub request-list-spec : {M : Type 1} → statement M
 request-list-spec =
     tie.close
     (tie.spec
-    (λ c κs. search needs) returns fill-requires (λ c. search needs) (λ c. search needs) (λ c. search needs) returns-2)
+    (λ c κs. tt) returns fill-requires (λ c. search needs) (λ c. search needs) (λ c. search needs) returns-2)

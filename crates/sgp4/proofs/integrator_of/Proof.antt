@@ -13,4 +13,4 @@ unfolding integratorBy integratorOf
 returns-2 c = sym (ap integratorBy (c .before .before .method .given .1))
 
 pub integrator-of-spec : {M : Type 1} → statement M
-integrator-of-spec = tie.close (tie.spec (λ c. search needs) (λ c κs. search needs) (λ c. search needs) returns returns-2)
+integrator-of-spec = tie.close (tie.spec (λ c. search needs) (λ c κs. tt) (λ c. search needs) returns returns-2)

@@ -14,4 +14,4 @@ returns-2 c = c .refused-row .ensures ∙ ap refusedRow (c .before .number .ensu
 
 pub row-of-spec : {M : Type 1} → statement M
 row-of-spec =
-    tie.close (tie.spec (λ c. search needs) (λ c. search needs) (λ c κs. search needs) (λ c κs. search needs) returns returns-2)
+    tie.close (tie.spec (λ c. search needs) (λ c. search needs) (λ c κs. tt) (λ c κs. tt) returns returns-2)

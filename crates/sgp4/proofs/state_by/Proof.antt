@@ -20,4 +20,4 @@ returns-2 c =
 
 pub state-by-spec : {M : Type 1} → statement M
 state-by-spec =
-    tie.close (tie.spec (λ c. search needs) (λ c κs. search needs) (λ c. search needs) (λ c κs. search needs) returns returns-2)
+    tie.close (tie.spec (λ c. search needs) (λ c κs. tt) (λ c. search needs) (λ c κs. tt) returns returns-2)

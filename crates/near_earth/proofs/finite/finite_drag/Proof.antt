@@ -1,7 +1,6 @@
 use lib.Ieee.{round, units, odd, size, span, climb, ofBits, neg}
 use lib.Count.{trailingZeros}
 use Rattle.near_earth.specs.Finite.{finiteDrag}
-use borrow.Author.Needs.{needs}
 use Rattle.near_earth.proofs.finite.finite_drag.Statement.{statement}
 use Rattle.near_earth.proofs.finite.finite_drag.Tie as tie
 
@@ -28,13 +27,13 @@ pub finite-drag-spec : {M : Type 1} → statement M
 finite-drag-spec =
     tie.close
     (tie.spec
-    (λ c κs. search needs)
-    (λ c κs. search needs)
-    (λ c κs. search needs)
-    (λ c κs. search needs)
-    (λ c κs. search needs)
-    (λ c κs. search needs)
-    (λ c κs. search needs)
-    (λ c κs. search needs)
-    (λ c κs. search needs)
+    (λ c κs. tt)
+    (λ c κs. tt)
+    (λ c κs. tt)
+    (λ c κs. tt)
+    (λ c κs. tt)
+    (λ c κs. tt)
+    (λ c κs. tt)
+    (λ c κs. tt)
+    (λ c κs. tt)
     returns)

@@ -1,7 +1,6 @@
 use lib.Ieee.{round, units, odd, size, span, climb, ofBits, neg}
 use lib.Count.{trailingZeros}
 use Rattle.near_earth.specs.Finite.{finiteHigher}
-use borrow.Author.Needs.{needs}
 use Rattle.near_earth.proofs.finite.finite_higher.Statement.{statement}
 use Rattle.near_earth.proofs.finite.finite_higher.Tie as tie
 
@@ -23,10 +22,10 @@ pub finite-higher-spec : {M : Type 1} → statement M
 finite-higher-spec =
     tie.close
     (tie.spec
-    (λ c κs. search needs)
-    (λ c κs. search needs)
-    (λ c κs. search needs)
-    (λ c κs. search needs)
-    (λ c κs. search needs)
-    (λ c κs. search needs)
+    (λ c κs. tt)
+    (λ c κs. tt)
+    (λ c κs. tt)
+    (λ c κs. tt)
+    (λ c κs. tt)
+    (λ c κs. tt)
     returns)

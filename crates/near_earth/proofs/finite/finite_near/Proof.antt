@@ -1,7 +1,6 @@
 use lib.Ieee.{round, units, odd, size, span, climb, ofBits, neg}
 use lib.Count.{trailingZeros}
 use Rattle.near_earth.specs.Finite.{finiteNear}
-use borrow.Author.Needs.{needs}
 use Rattle.near_earth.proofs.finite.finite_near.Statement.{statement}
 use Rattle.near_earth.proofs.finite.finite_near.Tie as tie
 
@@ -22,9 +21,9 @@ pub finite-near-spec : {M : Type 1} → statement M
 finite-near-spec =
     tie.close
     (tie.spec
-    (λ c κs. search needs)
-    (λ c κs. search needs)
-    (λ c κs. search needs)
-    (λ c κs. search needs)
-    (λ c κs. search needs)
+    (λ c κs. tt)
+    (λ c κs. tt)
+    (λ c κs. tt)
+    (λ c κs. tt)
+    (λ c κs. tt)
     returns)

@@ -1,7 +1,6 @@
 use lib.Ieee.{round, units, odd, size, span, climb, ofBits, neg}
 use lib.Count.{trailingZeros}
 use Rattle.near_earth.specs.Finite.{finiteRates}
-use borrow.Author.Needs.{needs}
 use Rattle.near_earth.proofs.finite.finite_rates.Statement.{statement}
 use Rattle.near_earth.proofs.finite.finite_rates.Tie as tie
 
@@ -20,8 +19,8 @@ pub finite-rates-spec : {M : Type 1} → statement M
 finite-rates-spec =
     tie.close
     (tie.spec
-    (λ c κs. search needs)
-    (λ c κs. search needs)
-    (λ c κs. search needs)
-    (λ c κs. search needs)
+    (λ c κs. tt)
+    (λ c κs. tt)
+    (λ c κs. tt)
+    (λ c κs. tt)
     returns)

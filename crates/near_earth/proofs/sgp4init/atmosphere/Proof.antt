@@ -1,7 +1,6 @@
 use lib.Ieee.{round, units, odd, size, span, climb, ofBits, neg}
 use lib.Count.{trailingZeros}
 use Rattle.near_earth.specs.Sgp4init.{atmosphere}
-use borrow.Author.Needs.{needs}
 use Rattle.near_earth.proofs.sgp4init.atmosphere.Statement.{statement}
 use Rattle.near_earth.proofs.sgp4init.atmosphere.Tie as tie
 
@@ -27,10 +26,10 @@ pub atmosphere-spec : {M : Type 1} → statement M
 atmosphere-spec =
     tie.close
     (tie.spec
-    (λ c κs. search needs)
+    (λ c κs. tt)
     returns
-    (λ c κs. search needs)
+    (λ c κs. tt)
     returns-2
-    (λ c κs. search needs)
-    (λ c κs. search needs)
+    (λ c κs. tt)
+    (λ c κs. tt)
     returns-3)

@@ -1,7 +1,6 @@
 use lib.Ieee.{round, units, odd, size, span, climb, ofBits, neg}
 use lib.Count.{trailingZeros}
 use Rattle.near_earth.specs.Sgp4init.{cc3}
-use borrow.Author.Needs.{needs}
 use Rattle.near_earth.proofs.sgp4init.cc3.Statement.{statement}
 use Rattle.near_earth.proofs.sgp4init.cc3.Tie as tie
 
@@ -20,6 +19,6 @@ pub cc3-spec : {M : Type 1} → statement M
 cc3-spec =
     tie.close
     (tie.spec
-    (λ c κs. search needs)
+    (λ c κs. tt)
     returns
     returns-2)

@@ -1,7 +1,6 @@
 use lib.Ieee.{round, units, odd, size, span, climb, ofBits, neg}
 use lib.Count.{trailingZeros}
 use Rattle.near_earth.specs.Sgp4init.{shape}
-use borrow.Author.Needs.{needs}
 use Rattle.near_earth.proofs.sgp4init.shape.Statement.{statement}
 use Rattle.near_earth.proofs.sgp4init.shape.Tie as tie
 
@@ -15,7 +14,7 @@ pub shape-spec : {M : Type 1} → statement M
 shape-spec =
     tie.close
     (tie.spec
-    (λ c κs. search needs)
-    (λ c κs. search needs)
-    (λ c κs. search needs)
+    (λ c κs. tt)
+    (λ c κs. tt)
+    (λ c κs. tt)
     returns)

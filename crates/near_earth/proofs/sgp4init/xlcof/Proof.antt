@@ -1,7 +1,6 @@
 use lib.Ieee.{round, units, odd, size, span, climb, ofBits, neg}
 use lib.Count.{trailingZeros}
 use Rattle.near_earth.specs.Sgp4init.{xlcof}
-use borrow.Author.Needs.{needs}
 use Rattle.near_earth.proofs.sgp4init.xlcof.Statement.{statement}
 use Rattle.near_earth.proofs.sgp4init.xlcof.Tie as tie
 
@@ -21,8 +20,8 @@ pub xlcof-spec : {M : Type 1} → statement M
 xlcof-spec =
     tie.close
     (tie.spec
-    (λ c κs. search needs)
-    (λ c κs. search needs)
+    (λ c κs. tt)
+    (λ c κs. tt)
     returns
-    (λ c κs. search needs)
+    (λ c κs. tt)
     returns-2)

@@ -1,7 +1,6 @@
 use lib.Ieee.{round, units, odd, size, span, climb, ofBits, neg}
 use lib.Count.{trailingZeros}
 use Rattle.sgp4.specs.DeepSpace.{averaged}
-use borrow.Author.Needs.{needs}
 use Rattle.sgp4.proofs.deep_space.averaged.Statement.{statement}
 use Rattle.sgp4.proofs.deep_space.averaged.Tie as tie
 
@@ -30,11 +29,11 @@ pub averaged-spec : {M : Type 1} → statement M
 averaged-spec =
     tie.close
     (tie.spec
-    (λ c κs. search needs)
+    (λ c κs. tt)
     returns
-    (λ c κs. search needs)
-    (λ c κs. search needs)
-    (λ c κs. search needs)
-    (λ c κs. search needs)
-    (λ c κs. search needs)
+    (λ c κs. tt)
+    (λ c κs. tt)
+    (λ c κs. tt)
+    (λ c κs. tt)
+    (λ c κs. tt)
     returns-2)

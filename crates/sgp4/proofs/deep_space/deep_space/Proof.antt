@@ -1,7 +1,6 @@
 use lib.Ieee.{round, units, odd, size, span, climb, ofBits, neg}
 use lib.Count.{trailingZeros}
 use Rattle.sgp4.specs.DeepSpace.{deepSpace}
-use borrow.Author.Needs.{needs}
 use Rattle.sgp4.proofs.deep_space.deep_space.Statement.{statement}
 use Rattle.sgp4.proofs.deep_space.deep_space.Tie as tie
 
@@ -22,9 +21,9 @@ pub deep-space-spec : {M : Type 1} → statement M
 deep-space-spec =
     tie.close
     (tie.spec
-    (λ c κs. search needs)
-    (λ c κs. search needs)
-    (λ c κs. search needs)
-    (λ c κs. search needs)
-    (λ c κs. search needs)
+    (λ c κs. tt)
+    (λ c κs. tt)
+    (λ c κs. tt)
+    (λ c κs. tt)
+    (λ c κs. tt)
     returns)

@@ -3,7 +3,6 @@ use lib.Count.{trailingZeros}
 use Rattle.state.specs.Secular.{mean}
 use Rattle.state.specs.Kept.{meanFrom}
 use Rattle.sgp4.specs.DeepSpace.{moved}
-use borrow.Author.Needs.{needs}
 use Rattle.sgp4.proofs.deep_space.moved.Statement.{statement}
 use Rattle.sgp4.proofs.deep_space.moved.Tie as tie
 
@@ -31,10 +30,10 @@ pub moved-spec : {M : Type 1} → statement M
 moved-spec =
     tie.close
     (tie.spec
-    (λ c κs. search needs)
+    (λ c κs. tt)
     returns
-    (λ c κs. search needs)
-    (λ c κs. search needs)
-    (λ c κs. search needs)
-    (λ c κs. search needs)
+    (λ c κs. tt)
+    (λ c κs. tt)
+    (λ c κs. tt)
+    (λ c κs. tt)
     returns-2)

@@ -1,7 +1,6 @@
 use lib.Ieee.{round, units, odd, size, span, climb, ofBits, neg}
 use lib.Count.{trailingZeros}
 use Rattle.sgp4.specs.DeepSpace.{perturbed}
-use borrow.Author.Needs.{needs}
 use Rattle.sgp4.proofs.deep_space.perturbed.Statement.{statement}
 use Rattle.sgp4.proofs.deep_space.perturbed.Tie as tie
 
@@ -29,10 +28,10 @@ pub perturbed-spec : {M : Type 1} → statement M
 perturbed-spec =
     tie.close
     (tie.spec
-    (λ c κs. search needs)
+    (λ c κs. tt)
     returns
-    (λ c κs. search needs)
-    (λ c κs. search needs)
-    (λ c κs. search needs)
-    (λ c κs. search needs)
+    (λ c κs. tt)
+    (λ c κs. tt)
+    (λ c κs. tt)
+    (λ c κs. tt)
     returns-2)

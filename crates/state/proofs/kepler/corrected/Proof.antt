@@ -1,7 +1,6 @@
 use lib.Ieee.{round, units, odd, size, span, climb, ofBits, neg}
 use lib.Count.{trailingZeros}
 use Rattle.state.specs.Kepler.{corrected}
-use borrow.Author.Needs.{needs}
 use Rattle.state.proofs.kepler.corrected.Statement.{statement}
 use Rattle.state.proofs.kepler.corrected.Tie as tie
 
@@ -15,6 +14,6 @@ pub corrected-spec : {M : Type 1} → statement M
 corrected-spec =
     tie.close
     (tie.spec
-    (λ c κs. search needs)
-    (λ c κs. search needs)
+    (λ c κs. tt)
+    (λ c κs. tt)
     returns)

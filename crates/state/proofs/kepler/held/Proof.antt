@@ -1,7 +1,6 @@
 use lib.Ieee.{round, units, odd, size, span, climb, ofBits, neg}
 use lib.Count.{trailingZeros}
 use Rattle.state.specs.Kepler.{held}
-use borrow.Author.Needs.{needs}
 use Rattle.state.proofs.kepler.held.Statement.{statement}
 use Rattle.state.proofs.kepler.held.Tie as tie
 
@@ -26,7 +25,7 @@ pub held-spec : {M : Type 1} → statement M
 held-spec =
     tie.close
     (tie.spec
-    (λ c κs. search needs)
+    (λ c κs. tt)
     returns
     returns-2
     returns-3)

@@ -3,7 +3,6 @@ use Rattle.state.specs.Kepler.{corrected, unsettled, begun, kepler}
 use Prim.Native.Nat.{_-_}
 use native.Mathlib.Omega.{arith}
 use Rattle.state.proofs.Rounds.{Left, start, again, early, late}
-use borrow.Author.Needs.{needs}
 use Rattle.state.proofs.kepler.kepler.Statement.{statement}
 use Rattle.state.proofs.kepler.kepler.Tie as tie
 
@@ -14,19 +13,19 @@ abbrev μ-loop : tie.MeasureT-loop
 μ-loop q k₀ n₀ k n = 10 - n
 
 begun-requires : tie.Need-begun-requires Inv-loop μ-loop
-begun-requires c κs = search needs
+begun-requires c κs = tt
 
 loop-holds : tie.Need-loop-holds Inv-loop μ-loop
 loop-holds c = start (c .before .args .q) (c .begun .result) (c .begun .ensures)
 
 unsettled-requires : tie.Need-unsettled-requires Inv-loop μ-loop
-unsettled-requires c κs = search needs
+unsettled-requires c κs = tt
 
 add-n : tie.Need-add-n Inv-loop μ-loop
 add-n c = omega arith
 
 corrected-requires : tie.Need-corrected-requires Inv-loop μ-loop
-corrected-requires c κs = search needs
+corrected-requires c κs = tt
 
 loop-less : tie.Need-loop-less Inv-loop μ-loop
 loop-less c = omega arith

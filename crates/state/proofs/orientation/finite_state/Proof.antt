@@ -1,7 +1,6 @@
 use lib.Ieee.{round, units, odd, size, span, climb, ofBits, neg}
 use lib.Count.{trailingZeros}
 use Rattle.state.specs.Orientation.{finiteState}
-use borrow.Author.Needs.{needs}
 use Rattle.state.proofs.orientation.finite_state.Statement.{statement}
 use Rattle.state.proofs.orientation.finite_state.Tie as tie
 
@@ -23,10 +22,10 @@ pub finite-state-spec : {M : Type 1} → statement M
 finite-state-spec =
     tie.close
     (tie.spec
-    (λ c κs. search needs)
-    (λ c κs. search needs)
-    (λ c κs. search needs)
-    (λ c κs. search needs)
-    (λ c κs. search needs)
-    (λ c κs. search needs)
+    (λ c κs. tt)
+    (λ c κs. tt)
+    (λ c κs. tt)
+    (λ c κs. tt)
+    (λ c κs. tt)
+    (λ c κs. tt)
     returns)

@@ -1,7 +1,6 @@
 use lib.Ieee.{round, units, odd, size, span, climb, ofBits, neg}
 use lib.Count.{trailingZeros}
 use Rattle.state.specs.Periodics.{longPeriod}
-use borrow.Author.Needs.{needs}
 use Rattle.state.proofs.periodics.long_period.Statement.{statement}
 use Rattle.state.proofs.periodics.long_period.Tie as tie
 
@@ -15,6 +14,6 @@ pub long-period-spec : {M : Type 1} → statement M
 long-period-spec =
     tie.close
     (tie.spec
-    (λ c κs. search needs)
-    (λ c κs. search needs)
+    (λ c κs. tt)
+    (λ c κs. tt)
     returns)

@@ -1,7 +1,6 @@
 use lib.Ieee.{round, units, odd, size, span, climb, ofBits, neg}
 use lib.Count.{trailingZeros}
 use Rattle.state.specs.Secular.{angles}
-use borrow.Author.Needs.{needs}
 use Rattle.state.proofs.secular.angles.Statement.{statement}
 use Rattle.state.proofs.secular.angles.Tie as tie
 
@@ -20,8 +19,8 @@ pub angles-spec : {M : Type 1} → statement M
 angles-spec =
     tie.close
     (tie.spec
-    (λ c κs. search needs)
-    (λ c κs. search needs)
-    (λ c κs. search needs)
-    (λ c κs. search needs)
+    (λ c κs. tt)
+    (λ c κs. tt)
+    (λ c κs. tt)
+    (λ c κs. tt)
     returns)

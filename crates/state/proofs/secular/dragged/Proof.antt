@@ -1,7 +1,6 @@
 use lib.Ieee.{round, units, odd, size, span, climb, ofBits, neg}
 use lib.Count.{trailingZeros}
 use Rattle.state.specs.Secular.{dragged}
-use borrow.Author.Needs.{needs}
 use Rattle.state.proofs.secular.dragged.Statement.{statement}
 use Rattle.state.proofs.secular.dragged.Tie as tie
 
@@ -20,8 +19,8 @@ pub dragged-spec : {M : Type 1} → statement M
 dragged-spec =
     tie.close
     (tie.spec
-    (λ c κs. search needs)
-    (λ c κs. search needs)
-    (λ c κs. search needs)
-    (λ c κs. search needs)
+    (λ c κs. tt)
+    (λ c κs. tt)
+    (λ c κs. tt)
+    (λ c κs. tt)
     returns)

@@ -1,7 +1,6 @@
 use lib.Ieee.{round, units, odd, size, span, climb, ofBits, neg}
 use lib.Count.{trailingZeros}
 use Rattle.state.specs.Secular.{secular}
-use borrow.Author.Needs.{needs}
 use Rattle.state.proofs.secular.secular.Statement.{statement}
 use Rattle.state.proofs.secular.secular.Tie as tie
 
@@ -20,7 +19,7 @@ pub secular-spec : {M : Type 1} → statement M
 secular-spec =
     tie.close
     (tie.spec
-    (λ c κs. search needs)
+    (λ c κs. tt)
     returns
-    (λ c κs. search needs)
+    (λ c κs. tt)
     returns-2)

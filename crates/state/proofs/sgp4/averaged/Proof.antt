@@ -1,7 +1,6 @@
 use lib.Ieee.{round, units, odd, size, span, climb, ofBits, neg}
 use lib.Count.{trailingZeros}
 use Rattle.state.specs.Kept.{averagedFrom}
-use borrow.Author.Needs.{needs}
 use Rattle.state.proofs.sgp4.averaged.Statement.{statement}
 use Rattle.state.proofs.sgp4.averaged.Tie as tie
 
@@ -27,9 +26,9 @@ pub averaged-spec : {M : Type 1} → statement M
 averaged-spec =
     tie.close
     (tie.spec
-    (λ c κs. search needs)
+    (λ c κs. tt)
     returns
-    (λ c κs. search needs)
-    (λ c κs. search needs)
-    (λ c κs. search needs)
+    (λ c κs. tt)
+    (λ c κs. tt)
+    (λ c κs. tt)
     returns-2)

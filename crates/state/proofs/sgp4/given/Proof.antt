@@ -1,7 +1,6 @@
 use lib.Ieee.{round, units, odd, size, span, climb, ofBits, neg}
 use lib.Count.{trailingZeros}
 use Rattle.state.specs.Sgp4.{given}
-use borrow.Author.Needs.{needs}
 use Rattle.state.proofs.sgp4.given.Statement.{statement}
 use Rattle.state.proofs.sgp4.given.Tie as tie
 
@@ -19,6 +18,6 @@ pub given-spec : {M : Type 1} → statement M
 given-spec =
     tie.close
     (tie.spec
-    (λ c κs. search needs)
+    (λ c κs. tt)
     returns
     returns-2)

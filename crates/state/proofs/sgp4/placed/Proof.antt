@@ -1,7 +1,6 @@
 use lib.Ieee.{round, units, odd, size, span, climb, ofBits, neg}
 use lib.Count.{trailingZeros}
 use Rattle.state.specs.Sgp4.{placed}
-use borrow.Author.Needs.{needs}
 use Rattle.state.proofs.sgp4.placed.Statement.{statement}
 use Rattle.state.proofs.sgp4.placed.Tie as tie
 
@@ -20,8 +19,8 @@ pub placed-spec : {M : Type 1} → statement M
 placed-spec =
     tie.close
     (tie.spec
-    (λ c κs. search needs)
+    (λ c κs. tt)
     returns
-    (λ c κs. search needs)
-    (λ c κs. search needs)
+    (λ c κs. tt)
+    (λ c κs. tt)
     returns-2)

@@ -1,7 +1,6 @@
 use lib.Ieee.{round, units, odd, size, span, climb, ofBits, neg}
 use lib.Count.{trailingZeros}
 use Rattle.state.specs.Kept.{sgp4From}
-use borrow.Author.Needs.{needs}
 use Rattle.state.proofs.sgp4.sgp4.Statement.{statement}
 use Rattle.state.proofs.sgp4.sgp4.Tie as tie
 
@@ -28,9 +27,9 @@ pub sgp4-spec : {M : Type 1} → statement M
 sgp4-spec =
     tie.close
     (tie.spec
-    (λ c κs. search needs)
-    (λ c κs. search needs)
+    (λ c κs. tt)
+    (λ c κs. tt)
     returns
-    (λ c κs. search needs)
-    (λ c κs. search needs)
+    (λ c κs. tt)
+    (λ c κs. tt)
     returns-2)

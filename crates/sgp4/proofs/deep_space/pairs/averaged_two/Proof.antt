@@ -1,5 +1,4 @@
 use Rattle.sgp4.specs.Two.{averagedTwo}
-use borrow.Author.Needs.{needs}
 use Rattle.sgp4.proofs.deep_space.pairs.averaged_two.Statement.{statement}
 use Rattle.sgp4.proofs.deep_space.pairs.averaged_two.Tie as tie
 
@@ -32,16 +31,16 @@ pub averaged-two-spec : {M : Type 1} → statement M
 averaged-two-spec =
     tie.close
     (tie.spec
-    (λ c κs. search needs)
-    (λ c κs. search needs)
+    (λ c κs. tt)
+    (λ c κs. tt)
     returns
-    (λ c κs. search needs)
-    (λ c κs. search needs)
-    (λ c κs. search needs)
-    (λ c κs. search needs)
-    (λ c κs. search needs)
-    (λ c κs. search needs)
-    (λ c κs. search needs)
-    (λ c κs. search needs)
-    (λ c κs. search needs)
+    (λ c κs. tt)
+    (λ c κs. tt)
+    (λ c κs. tt)
+    (λ c κs. tt)
+    (λ c κs. tt)
+    (λ c κs. tt)
+    (λ c κs. tt)
+    (λ c κs. tt)
+    (λ c κs. tt)
     returns-2)

@@ -1,5 +1,4 @@
 use Rattle.sgp4.specs.Two.{deepTwo}
-use borrow.Author.Needs.{needs}
 use Rattle.sgp4.proofs.deep_space.pairs.deep_two.Statement.{statement}
 use Rattle.sgp4.proofs.deep_space.pairs.deep_two.Tie as tie
 
@@ -26,13 +25,13 @@ pub deep-two-spec : {M : Type 1} → statement M
 deep-two-spec =
     tie.close
     (tie.spec
-    (λ c κs. search needs)
-    (λ c κs. search needs)
-    (λ c κs. search needs)
-    (λ c κs. search needs)
-    (λ c κs. search needs)
-    (λ c κs. search needs)
-    (λ c κs. search needs)
-    (λ c κs. search needs)
-    (λ c κs. search needs)
+    (λ c κs. tt)
+    (λ c κs. tt)
+    (λ c κs. tt)
+    (λ c κs. tt)
+    (λ c κs. tt)
+    (λ c κs. tt)
+    (λ c κs. tt)
+    (λ c κs. tt)
+    (λ c κs. tt)
     returns)

@@ -1,7 +1,6 @@
 use Rattle.state.specs.Secular.{mean}
 use Rattle.state.specs.Kept.{meanFrom}
 use Rattle.sgp4.specs.Two.{driftOf, movedTwo}
-use borrow.Author.Needs.{needs}
 use Rattle.sgp4.proofs.deep_space.pairs.moved_two.Statement.{statement}
 use Rattle.sgp4.proofs.deep_space.pairs.moved_two.Tie as tie
 
@@ -33,14 +32,14 @@ pub moved-two-spec : {M : Type 1} → statement M
 moved-two-spec =
     tie.close
     (tie.spec
-    (λ c κs. search needs)
-    (λ c κs. search needs)
+    (λ c κs. tt)
+    (λ c κs. tt)
     returns
-    (λ c κs. search needs)
-    (λ c κs. search needs)
-    (λ c κs. search needs)
-    (λ c κs. search needs)
-    (λ c κs. search needs)
-    (λ c κs. search needs)
-    (λ c κs. search needs)
+    (λ c κs. tt)
+    (λ c κs. tt)
+    (λ c κs. tt)
+    (λ c κs. tt)
+    (λ c κs. tt)
+    (λ c κs. tt)
+    (λ c κs. tt)
     returns-2)

@@ -1,5 +1,4 @@
 use Rattle.sgp4.specs.Two.{readyOf, perturbedTwo}
-use borrow.Author.Needs.{needs}
 use Rattle.sgp4.proofs.deep_space.pairs.perturbed_two.Statement.{statement}
 use Rattle.sgp4.proofs.deep_space.pairs.perturbed_two.Tie as tie
 
@@ -31,13 +30,13 @@ pub perturbed-two-spec : {M : Type 1} → statement M
 perturbed-two-spec =
     tie.close
     (tie.spec
-    (λ c κs. search needs)
-    (λ c κs. search needs)
+    (λ c κs. tt)
+    (λ c κs. tt)
     returns
-    (λ c κs. search needs)
-    (λ c κs. search needs)
-    (λ c κs. search needs)
-    (λ c κs. search needs)
-    (λ c κs. search needs)
-    (λ c κs. search needs)
+    (λ c κs. tt)
+    (λ c κs. tt)
+    (λ c κs. tt)
+    (λ c κs. tt)
+    (λ c κs. tt)
+    (λ c κs. tt)
     returns-2)

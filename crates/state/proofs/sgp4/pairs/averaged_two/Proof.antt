@@ -1,5 +1,4 @@
 use Rattle.state.specs.Two.{readyOf, averagedTwo}
-use borrow.Author.Needs.{needs}
 use Rattle.state.proofs.sgp4.pairs.averaged_two.Statement.{statement}
 use Rattle.state.proofs.sgp4.pairs.averaged_two.Tie as tie
 
@@ -26,11 +25,11 @@ pub averaged-two-spec : {M : Type 1} → statement M
 averaged-two-spec =
     tie.close
     (tie.spec
-    (λ c κs. search needs)
-    (λ c κs. search needs)
+    (λ c κs. tt)
+    (λ c κs. tt)
     returns
-    (λ c κs. search needs)
-    (λ c κs. search needs)
-    (λ c κs. search needs)
-    (λ c κs. search needs)
+    (λ c κs. tt)
+    (λ c κs. tt)
+    (λ c κs. tt)
+    (λ c κs. tt)
     returns-2)

@@ -1,5 +1,4 @@
 use Rattle.state.specs.Two.{solvedOf, periodicsTwo}
-use borrow.Author.Needs.{needs}
 use Rattle.state.proofs.sgp4.pairs.periodics_two.Statement.{statement}
 use Rattle.state.proofs.sgp4.pairs.periodics_two.Tie as tie
 
@@ -25,13 +24,13 @@ pub periodics-two-spec : {M : Type 1} → statement M
 periodics-two-spec =
     tie.close
     (tie.spec
-    (λ c κs. search needs)
-    (λ c κs. search needs)
-    (λ c κs. search needs)
-    (λ c κs. search needs)
-    (λ c κs. search needs)
-    (λ c κs. search needs)
-    (λ c κs. search needs)
-    (λ c κs. search needs)
-    (λ c κs. search needs)
+    (λ c κs. tt)
+    (λ c κs. tt)
+    (λ c κs. tt)
+    (λ c κs. tt)
+    (λ c κs. tt)
+    (λ c κs. tt)
+    (λ c κs. tt)
+    (λ c κs. tt)
+    (λ c κs. tt)
     returns)

@@ -1,5 +1,4 @@
 use Rattle.state.specs.Two.{readyTwo}
-use borrow.Author.Needs.{needs}
 use Rattle.state.proofs.sgp4.pairs.ready_two.Statement.{statement}
 use Rattle.state.proofs.sgp4.pairs.ready_two.Tie as tie
 
@@ -25,11 +24,11 @@ pub ready-two-spec : {M : Type 1} → statement M
 ready-two-spec =
     tie.close
     (tie.spec
-    (λ c κs. search needs)
-    (λ c κs. search needs)
-    (λ c κs. search needs)
+    (λ c κs. tt)
+    (λ c κs. tt)
+    (λ c κs. tt)
     returns
-    (λ c κs. search needs)
-    (λ c κs. search needs)
-    (λ c κs. search needs)
+    (λ c κs. tt)
+    (λ c κs. tt)
+    (λ c κs. tt)
     returns-2)
