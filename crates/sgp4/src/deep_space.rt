@@ -5,9 +5,9 @@ ghost use Rattle.sgp4.specs.Two as W;
 use elementary::sin_cos;
 use elementary::two_thirds;
 use instant::Minutes;
-use lunar_solar::dpper::dpper;
 use near_earth::sgp4init::aycof;
 use near_earth::sgp4init::xlcof;
+use periodics::dpper::dpper;
 use resonance::dspace::dspace;
 use resonance::place::Place;
 use satellite::DeepSpace;
@@ -70,11 +70,11 @@ fn updated(g: Secular, d: resonance::dspace::Mean) -> Secular
 }
 
 // The mean elements that dpper is handed.
-fn averages(em: f64, inclm: f64, a: Angles) -> lunar_solar::dpper::Perturbed
+fn averages(em: f64, inclm: f64, a: Angles) -> periodics::dpper::Perturbed
     ensures { λ r. ⌜ r ≡ D.averages em inclm a ⌝ }
 {
     let ep = mended(em);
-    lunar_solar::dpper::Perturbed {
+    periodics::dpper::Perturbed {
         ep,
         inclp: inclm,
         nodep: a.nodem,
@@ -84,11 +84,11 @@ fn averages(em: f64, inclm: f64, a: Angles) -> lunar_solar::dpper::Perturbed
 }
 
 // 002's turn of a negative perturbed inclination.
-fn righted(x: lunar_solar::dpper::Perturbed) -> lunar_solar::dpper::Perturbed
+fn righted(x: periodics::dpper::Perturbed) -> periodics::dpper::Perturbed
     ensures { λ r. ⌜ r ≡ D.righted x ⌝ }
 {
     if x.inclp < 0.0 {
-        return lunar_solar::dpper::Perturbed {
+        return periodics::dpper::Perturbed {
             ep: x.ep,
             inclp: -x.inclp,
             nodep: x.nodep + PI,
@@ -106,7 +106,7 @@ fn no_ellipse(ep: f64) -> bool
     (ep < 0.0) | (ep > 1.0)
 }
 
-fn inclined(x: lunar_solar::dpper::Perturbed, sinip: f64, cosip: f64) -> Perturbed
+fn inclined(x: periodics::dpper::Perturbed, sinip: f64, cosip: f64) -> Perturbed
     ensures { λ r. ⌜ r ≡ D.inclined x sinip cosip ⌝ }
 {
     Perturbed {
@@ -136,7 +136,7 @@ fn anew(sinip: f64, cosip: f64) -> Terms
     }
 }
 
-fn perturbed(x: lunar_solar::dpper::Perturbed, m: Mean) -> Answer
+fn perturbed(x: periodics::dpper::Perturbed, m: Mean) -> Answer
     ensures { λ r. ⌜ r ≡ D.perturbed x m ⌝ }
 {
     if no_ellipse(x.ep) {
@@ -181,9 +181,9 @@ pub fn deep_space(s: NearEarth, d: DeepSpace, p: Place, t: Minutes) -> Answer
 // ---- Two times at once, as crate `state` has them for near Earth.
 
 fn perturbed_two(
-    x: lunar_solar::dpper::Perturbed,
+    x: periodics::dpper::Perturbed,
     m: Mean,
-    x2: lunar_solar::dpper::Perturbed,
+    x2: periodics::dpper::Perturbed,
     m2: Mean,
 ) -> ReadyPair
     ensures { λ r. ⌜ r ≡ W.perturbedTwo x m x2 m2 ⌝ }
