@@ -1,10 +1,10 @@
 /*
  * Saddlekerf for C and C++: two-line element sets and SGP4, proved bit for bit.
  *
- * Link with libsaddlekerf.a (`rt staticlib saddlekerf` writes it; x86-64 Linux) and the C library
- * with -lm, of which it calls memset and fmod alone; fmod is exact, so that no number depends on
- * whose it is. Every function answers for all arguments that keep the rules of memory
- * below: no other input is undefined.
+ * Link with libsaddlekerf.a (`rt staticlib saddlekerf` writes it; x86-64 Linux). Of the C library it
+ * calls memcpy and memset alone, and nothing that computes. Every function answers for all arguments
+ * that keep the rules of memory below, in the floating-point environment below: no other input is
+ * undefined.
  *
  * USE
  *
@@ -31,23 +31,47 @@
  * MEMORY
  *
  *   An array is lent as a pointer and a number of elements (not of bytes). For the time of the call
- *   the pointer must not be null, not even for 0 elements, must be aligned for its type and must
- *   lead to that many elements; what is lent for reading must be initialised. What is lent for
- *   writing (a pointer without const) must not overlap anything else that is lent to the same call,
- *   and no other thread may touch it; what is lent for reading must not change.
+ *   the pointer must be aligned for its type and lead to that many elements; what is lent for
+ *   reading must be initialised. It may be null where the number is 0, and only there. What is lent
+ *   for writing (a pointer without const) must not overlap anything else that is lent to the same
+ *   call, and no other thread may touch it; what is lent for reading must not change.
  *   Nothing is allocated, nothing is kept after the return, and there is no global state: calls on
  *   different memory may run in any number of threads at once. A request writes the satellite, so
  *   one satellite takes one call at a time; copy the struct to ask it in two threads.
- *   A call that is refused with 1-9, 17 or 18 writes nothing.
+ *   A call that is refused with 1-9 or 16-18 writes nothing. Where memory "stays", it is proved to
+ *   hold the same values; all NaNs are one value there, and that a NaN keeps its own bits too is
+ *   tested and not proved.
+ *
+ * FLOATING-POINT ENVIRONMENT
+ *
+ *   The proofs speak of doubles rounded to nearest, ties to even, with subnormal numbers and without
+ *   traps: the state in which a program starts, and which threads take over from their creator. Where
+ *   it was changed (fesetround, feenableexcept, flush-to-zero, denormals-are-zero, a program linked
+ *   with -ffast-math) other bits come out, and where a trap is unmasked, a lawful line can end the
+ *   process: lines that divide 0 by 0 on the way to refusal 8 are lawful.
+ *   saddlekerf_environment_is_default tells.
+ *
+ * TIME AND STACK
+ *
+ *   Every call returns. Only a resonant satellite takes strides: a request at most 7,304 of them (a
+ *   time 3,652 days away, some 1.5 ms), a list at most 7,479,296 (1,024 such times, each on the other
+ *   side of the epoch than the one before, some 1.5 s). saddlekerf_strides tells how many were taken.
+ *   No function needs more than SADDLEKERF_STACK bytes of stack, beside what memcpy and memset take.
+ *
+ * VERSIONS
+ *
+ *   SADDLEKERF_VERSION is the header's, saddlekerf_version() the archive's. A header and an archive
+ *   whose functions, answers or layouts of memory differ do not link: every file that includes the
+ *   header refers to the symbol saddlekerf_abi_1, whose name changes with them.
  *
  * ANSWERS
  *
- *   Every function answers one 64-bit number:
+ *   Every function but the versions answers one 64-bit number:
  *
  *     bits  0-7   refusal number, 0 when answered (enum saddlekerf_refusal_number)
  *     bits  8-15  line 1 or 2 (refusals 1-4); rounds of Kepler's equation (saddlekerf_request)
  *     bits 16-31  column, counted from 1 (refusal 3); field (refusal 6 of lines)
- *     bits 32-63  bytes written (saddlekerf_print); integrator strides (requests)
+ *     bits 32-63  bytes written (saddlekerf_print, saddlekerf_write); integrator strides (requests)
  *
  *   What is not named for a function and a refusal is 0. The functions below take an answer apart.
  */
@@ -61,12 +85,18 @@
 extern "C" {
 #endif
 
+/* The version of this header: 10000 * major + 100 * minor + patch. */
+#define SADDLEKERF_VERSION 200
+
 /* Elements of a satellite's memory. More may be lent; they are never touched. */
 #define SADDLEKERF_NUMBERS 83
 #define SADDLEKERF_MARKS 4
 
 /* Elements of one state. */
 #define SADDLEKERF_STATE 6
+
+/* Bytes of stack: no function needs more. */
+#define SADDLEKERF_STACK 8192
 
 /* The most times of one list. */
 #define SADDLEKERF_LIST_LIMIT 1024
@@ -76,6 +106,10 @@ extern "C" {
 
 /* A buffer for saddlekerf_print that is never too short. */
 #define SADDLEKERF_PRINT_ROOM 900
+
+/* Bytes of a line, and elements of a record (enum saddlekerf_record_field). */
+#define SADDLEKERF_LINE 69
+#define SADDLEKERF_FIELDS 22
 
 /* Refusal numbers. */
 enum saddlekerf_refusal_number {
@@ -95,7 +129,7 @@ enum saddlekerf_refusal_number {
     SADDLEKERF_SEMI_LATUS_RECTUM = 13,    /* semi-latus rectum < 0 */
     SADDLEKERF_RADIUS = 14,               /* radius below one Earth radius */
     SADDLEKERF_STATE_NOT_FINITE = 15,     /* a number of the state is not finite */
-    SADDLEKERF_RECORD = 16,               /* never given for lines: their record is always legal */
+    SADDLEKERF_RECORD = 16,               /* a record to be written is outside layout or ranges */
     SADDLEKERF_ROOM = 17,                 /* lent memory too short */
     SADDLEKERF_LIST = 18                  /* a list of more than 1,024 times */
 };
@@ -109,6 +143,56 @@ enum saddlekerf_field_number {
     SADDLEKERF_FIELD_ANOMALY = 5,
     SADDLEKERF_FIELD_MOTION = 6
 };
+
+/*
+ * The numbers of a record: each field a whole number in its last decimal place.
+ * A blank designator has the launch 0 and three blanks.
+ */
+enum saddlekerf_record_field {
+    SADDLEKERF_RECORD_NUMBER = 0,         /* catalogue number, 0 to 99999 */
+    SADDLEKERF_RECORD_CLASS = 1,          /* the byte 'U', 'C' or 'S' */
+    SADDLEKERF_RECORD_LAUNCH = 2,         /* designator: launch year and number, five digits, 58002 */
+    SADDLEKERF_RECORD_PIECE = 3,          /* designator: three bytes (3, 4, 5), 'A' to 'Z', then ' ' */
+    SADDLEKERF_RECORD_YEAR = 6,           /* 1957 to 2056 */
+    SADDLEKERF_RECORD_DAY = 7,            /* day of the year, 1E-8 days: 1 January, 0h, is 100000000 */
+    SADDLEKERF_RECORD_NDOT = 8,           /* half the first derivative of mean motion, 1E-8 rev/day^2 */
+    SADDLEKERF_RECORD_NDDOT = 9,          /* a sixth of the second: mantissa, point before five digits */
+    SADDLEKERF_RECORD_NDDOT_EXPONENT = 10,/* its power of ten, -9 to 9; 0 where the mantissa is 0 */
+    SADDLEKERF_RECORD_BSTAR = 11,         /* B*: mantissa, point before five digits */
+    SADDLEKERF_RECORD_BSTAR_EXPONENT = 12,/* its power of ten, -9 to 9; 0 where the mantissa is 0 */
+    SADDLEKERF_RECORD_TYPE = 13,          /* ephemeris type, 0 to 9 */
+    SADDLEKERF_RECORD_SET = 14,           /* element number, 0 to 9999 */
+    SADDLEKERF_RECORD_INCLINATION = 15,   /* 1E-4 degrees, at most 1800000 */
+    SADDLEKERF_RECORD_NODE = 16,          /* 1E-4 degrees, below 3600000 */
+    SADDLEKERF_RECORD_ECCENTRICITY = 17,  /* 1E-7, at most 9999999 */
+    SADDLEKERF_RECORD_PERIGEE = 18,       /* 1E-4 degrees, below 3600000 */
+    SADDLEKERF_RECORD_ANOMALY = 19,       /* 1E-4 degrees, below 3600000 */
+    SADDLEKERF_RECORD_MOTION = 20,        /* 1E-8 revolutions a day, 1 to 9999999999 */
+    SADDLEKERF_RECORD_REVOLUTION = 21     /* 0 to 99999 */
+};
+
+/* ---- the archive and the thread ---- */
+
+/* The archive's version, as SADDLEKERF_VERSION. */
+uint64_t saddlekerf_version(void);
+
+/* 1: the number of the functions, answers and layouts of memory that this header describes. */
+uint64_t saddlekerf_abi_1(void);
+
+/* A header of other functions, answers or layouts than the archive's does not link. */
+__attribute__((used, unused)) static uint64_t (*const saddlekerf_abi)(void) = saddlekerf_abi_1;
+
+/*
+ * 1 where the calling thread's floating-point environment is the one that the proofs speak of, else
+ * 0. Flags that earlier operations raised do not count. It reads MXCSR: denormals-are-zero (bit 6),
+ * the masks of the traps (7-12), rounding (13-14), flush-to-zero (15).
+ */
+static inline int saddlekerf_environment_is_default(void)
+{
+    uint32_t mxcsr;
+    __asm__ __volatile__("stmxcsr %0" : "=m"(mxcsr));
+    return (mxcsr & UINT32_C(0xffc0)) == UINT32_C(0x1f80);
+}
 
 /* ---- an answer taken apart ---- */
 
@@ -144,12 +228,32 @@ uint64_t saddlekerf_print(const uint8_t *line1, size_t line1_length,
                           uint8_t *out, size_t out_length);
 
 /*
- * The epoch of a pair as an instant, which goes into *instant. Answer: as saddlekerf_read. The time
- * of an instant i, for requests, is i - *instant.
+ * The epoch of a pair as an instant, which goes into *instant (not null). Answer: as
+ * saddlekerf_read. The time of an instant i, for requests, is (int64_t)i - (int64_t)*instant: both
+ * are far below 2^63.
  */
 uint64_t saddlekerf_epoch(const uint8_t *line1, size_t line1_length,
                           const uint8_t *line2, size_t line2_length,
                           uint64_t *instant);
+
+/*
+ * The record of a pair, which goes into the first 22 elements of fields; what lies past them stays.
+ * Answer: 0; 1-6 as saddlekerf_read; 17 where fields is too short.
+ */
+uint64_t saddlekerf_record(const uint8_t *line1, size_t line1_length,
+                           const uint8_t *line2, size_t line2_length,
+                           int64_t *fields, size_t fields_length);
+
+/*
+ * Writes line 1 or 2 of a record: 69 bytes at the front of out, with no 0 byte after them; what lies
+ * past them stays. Leading zeros are written as blanks where the layout allows it, a plus in front
+ * of a number as a blank, the exponent 0 as -0. Both lines read as this record again.
+ * Answer: 17 where fields has fewer than 22 elements; 16 where the record, judged as a whole, is
+ * outside layout or ranges, or line is neither 1 nor 2; 17 where out has fewer than 69 bytes; else 0
+ * with the 69 bytes written.
+ */
+uint64_t saddlekerf_write(const int64_t *fields, size_t fields_length, uint32_t line,
+                          uint8_t *out, size_t out_length);
 
 /* ---- a satellite ---- */
 
@@ -157,7 +261,9 @@ uint64_t saddlekerf_epoch(const uint8_t *line1, size_t line1_length,
  * Opens a pair: the satellite goes into the first 83 elements of numbers and the first 4 of marks.
  * Answer: 0; 1-6 as saddlekerf_read; 7; 8; 17 where numbers or marks is too short.
  * The memory may be copied and moved. Only what saddlekerf_open wrote and requests changed is a
- * satellite of lines; requests take any other numbers too, and answer by the same rules.
+ * satellite of lines; requests take any other numbers too, and answer by the same rules. Requests
+ * change the saved place alone: numbers[0] and numbers[1] (the integrated pair), marks[0] (0 ahead
+ * of the epoch, 1 before it) and marks[1] (stride number).
  */
 uint64_t saddlekerf_open(const uint8_t *line1, size_t line1_length,
                          const uint8_t *line2, size_t line2_length,

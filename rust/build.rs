@@ -14,6 +14,4 @@ fn main() {
     }
     println!("cargo:rustc-link-search=native={}", folder.display());
     println!("cargo:rustc-link-lib=static=saddlekerf");
-    // fmod alone, which is exact: its bits are the same on every machine.
-    println!("cargo:rustc-link-lib=m");
 }

@@ -1,6 +1,7 @@
 /*
- * Uses the library from C: reads, prints and opens pairs, asks for one time and for lists, and holds
- * every answer, bit for bit, to document 01's example and to the rows of the published test set.
+ * Uses the library from C: reads, prints and opens pairs, reads and writes records, asks for one time
+ * and for lists, and holds every answer, bit for bit, to document 01's example and to the rows of the
+ * published test set; what memory holds afterwards too, with NaNs in it whose own bits must stay.
  *
  *   c_example bench/vectors/published-rows.txt
  *
@@ -12,7 +13,7 @@
 #include <stdlib.h>
 #include <string.h>
 
-#define LENGTH 69
+#define LENGTH SADDLEKERF_LINE
 #define MINUTE INT64_C(60000000)
 
 static const char LINE1[] = "1 00005U 58002B   00179.78495062  .00000023  00000-0  28098-4 0  4753";
@@ -89,6 +90,36 @@ static const char *line2_with(size_t column, const char *text)
     return line;
 }
 
+static void one_version(void)
+{
+    CHECK(saddlekerf_version() == SADDLEKERF_VERSION);
+    CHECK(saddlekerf_abi() == 1);
+}
+
+/* Under another control word of the processor's arithmetic; the old one is put back. */
+static int default_under(uint32_t mxcsr)
+{
+    uint32_t before;
+    int told;
+    __asm__ __volatile__("stmxcsr %0" : "=m"(before));
+    __asm__ __volatile__("ldmxcsr %0" : : "m"(mxcsr));
+    told = saddlekerf_environment_is_default();
+    __asm__ __volatile__("ldmxcsr %0" : : "m"(before));
+    return told;
+}
+
+/* Denormals-are-zero, unmasked traps, rounding modes and flush-to-zero are told; raised flags are not. */
+static void environment(void)
+{
+    unsigned bit;
+    CHECK(saddlekerf_environment_is_default());
+    for (bit = 6; bit < 16; bit++)
+        CHECK(!default_under(UINT32_C(0x1f80) ^ UINT32_C(1) << bit));
+    CHECK(!default_under(UINT32_C(0x7f80)));
+    CHECK(default_under(UINT32_C(0x1fbf)));
+    CHECK(saddlekerf_environment_is_default());
+}
+
 /* Document 01's example printed whole; the room past it, and a room too short, stay. */
 static void print_example(void)
 {
@@ -145,6 +176,58 @@ static void read_at_the_edges(void)
     CHECK(instant == (43 * 365 + 10 + 178) * UINT64_C(86400000000) + UINT64_C(67819733568));
 }
 
+/* The numbers of document 01's example, and a mark past them. */
+static const int64_t EXAMPLE[SADDLEKERF_FIELDS + 1] = {
+    5, 'U', 58002, 'B', ' ', ' ', 2000, INT64_C(17978495062), 23, 0, 0, 28098, -4, 0, 475,
+    342682, 3487242, 1859667, 3317664, 193264, 1082419157, 41366, -77};
+
+static void read_record(void)
+{
+    int64_t fields[SADDLEKERF_FIELDS + 1];
+    uint64_t a;
+
+    memset(fields, 0x55, sizeof fields);
+    fields[SADDLEKERF_FIELDS] = -77;
+    a = saddlekerf_record(bytes(LINE1), LENGTH, bytes(LINE1), LENGTH, fields, SADDLEKERF_FIELDS);
+    CHECK(saddlekerf_refusal(a) == SADDLEKERF_START && saddlekerf_line(a) == 2);
+    a = saddlekerf_record(bytes(LINE1), LENGTH, bytes(LINE2), LENGTH, fields, SADDLEKERF_FIELDS - 1);
+    CHECK(a == SADDLEKERF_ROOM);
+    CHECK(fields[0] == INT64_C(0x5555555555555555) && fields[21] == fields[0]);
+    a = saddlekerf_record(bytes(LINE1), LENGTH, bytes(LINE2), LENGTH, fields, SADDLEKERF_FIELDS + 1);
+    CHECK(a == SADDLEKERF_ANSWERED);
+    CHECK(memcmp(fields, EXAMPLE, sizeof fields) == 0);
+    CHECK(fields[SADDLEKERF_RECORD_MOTION] == 1082419157);
+}
+
+/* Both lines again, at the front of a longer buffer; refused, the buffer stays. */
+static void write_record(void)
+{
+    int64_t fields[SADDLEKERF_FIELDS];
+    uint8_t out[LENGTH + 3];
+    uint32_t line;
+    size_t i;
+
+    for (line = 1; line <= 2; line++) {
+        memset(out, '#', sizeof out);
+        CHECK(saddlekerf_write(EXAMPLE, SADDLEKERF_FIELDS - 1, line, out, sizeof out) == SADDLEKERF_ROOM);
+        CHECK(saddlekerf_write(EXAMPLE, SADDLEKERF_FIELDS, line, out, LENGTH - 1) == SADDLEKERF_ROOM);
+        CHECK(saddlekerf_write(EXAMPLE, SADDLEKERF_FIELDS, 3 * (line - 1), out, sizeof out) == SADDLEKERF_RECORD);
+        for (i = 0; i < SADDLEKERF_FIELDS; i++) {
+            memcpy(fields, EXAMPLE, sizeof fields);
+            fields[i] = INT64_MIN;
+            CHECK(saddlekerf_write(fields, SADDLEKERF_FIELDS, line, out, sizeof out) == SADDLEKERF_RECORD);
+            fields[i] = INT64_MAX;
+            CHECK(saddlekerf_write(fields, SADDLEKERF_FIELDS, line, out, 0) == SADDLEKERF_RECORD);
+        }
+        for (i = 0; i < sizeof out; i++)
+            CHECK(out[i] == '#');
+        CHECK(saddlekerf_write(EXAMPLE, SADDLEKERF_FIELDS + 1, line, out, sizeof out) == (uint64_t)LENGTH << 32);
+        CHECK(memcmp(out, line == 1 ? LINE1 : LINE2, LENGTH) == 0);
+        for (i = LENGTH; i < sizeof out; i++)
+            CHECK(out[i] == '#');
+    }
+}
+
 static uint32_t strides_at(saddlekerf_satellite *s, int64_t time)
 {
     double state[SADDLEKERF_STATE];
@@ -176,12 +259,36 @@ struct memory {
     uint8_t rounds[4];
 };
 
-static void mark(struct memory *m)
+/* NaN number i of those that the rooms are marked with: each has bits of its own. */
+static uint64_t canary(size_t i)
+{
+    return UINT64_C(0x7ff8000000000000) + 69 * i + 1;
+}
+
+static void mark_doubles(double *numbers, size_t count)
 {
     size_t i;
+    for (i = 0; i < count; i++) {
+        const uint64_t pattern = canary(i);
+        memcpy(&numbers[i], &pattern, sizeof pattern);
+    }
+}
+
+/* Whether the numbers from one index to another still have the bits of their marks. */
+static int marked(const double *numbers, size_t from, size_t to)
+{
+    size_t i;
+    for (i = from; i < to; i++)
+        if (bits(numbers[i]) != canary(i))
+            return 0;
+    return 1;
+}
+
+static void mark(struct memory *m)
+{
     memset(m, 0x55, sizeof *m);
-    for (i = 0; i < sizeof m->states / sizeof *m->states; i++)
-        m->states[i] = 0.25;
+    mark_doubles(m->numbers, SADDLEKERF_NUMBERS + 1);
+    mark_doubles(m->states, SADDLEKERF_STATE * 4);
 }
 
 static uint64_t open_in(struct memory *m, const char *line2, size_t numbers, size_t marks)
@@ -215,22 +322,31 @@ static void keep_memory(void)
 {
     static const int64_t times[SADDLEKERF_LIST_LIMIT + 1];
     static const int64_t two[2] = {SADDLEKERF_TIME_LIMIT + 1, 720 * MINUTE};
-    struct memory m, before;
+    struct memory m, before, opened;
     size_t i;
 
     mark(&m);
-    before = m;
+    memcpy(&before, &m, sizeof m);
     CHECK(open_in(&m, RESONANT2, SADDLEKERF_NUMBERS - 1, SADDLEKERF_MARKS) == SADDLEKERF_ROOM);
     CHECK(open_in(&m, RESONANT2, SADDLEKERF_NUMBERS, SADDLEKERF_MARKS - 1) == SADDLEKERF_ROOM);
     CHECK(open_in(&m, LINE2, SADDLEKERF_NUMBERS, SADDLEKERF_MARKS) == SADDLEKERF_CATALOGUE);
     CHECK(same(&m, &before));
     CHECK(open_in(&m, RESONANT2, SADDLEKERF_NUMBERS + 1, SADDLEKERF_MARKS + 1) == SADDLEKERF_ANSWERED);
-    CHECK(bits(m.numbers[SADDLEKERF_NUMBERS]) == bits(before.numbers[SADDLEKERF_NUMBERS]));
+    CHECK(marked(m.numbers, SADDLEKERF_NUMBERS, SADDLEKERF_NUMBERS + 1));
     CHECK(m.marks[SADDLEKERF_MARKS] == before.marks[SADDLEKERF_MARKS]);
 
-    CHECK(saddlekerf_strides(ask(&m, SADDLEKERF_NUMBERS, SADDLEKERF_MARKS, -1440 * MINUTE, 6)) == 2);
-    CHECK(bits(m.states[6]) == bits(0.25));
-    before = m;
+    memcpy(&opened, &m, sizeof m);
+    CHECK(saddlekerf_strides(ask(&m, SADDLEKERF_NUMBERS, SADDLEKERF_MARKS, -1440 * MINUTE, 24)) == 2);
+    CHECK(marked(m.states, 6, 24));
+    /* a request changes the saved place alone */
+    CHECK(m.marks[0] == 1 && m.marks[1] == 2);
+    CHECK(memcmp(m.numbers + 2, opened.numbers + 2, sizeof m.numbers - 2 * sizeof *m.numbers) == 0);
+    CHECK(memcmp(m.marks + 2, opened.marks + 2, sizeof m.marks - 2 * sizeof *m.marks) == 0);
+
+    mark_doubles(m.states, SADDLEKERF_STATE * 4);
+    memcpy(&before, &m, sizeof m);
+    CHECK(open_in(&m, LINE2, SADDLEKERF_NUMBERS, SADDLEKERF_MARKS) == SADDLEKERF_CATALOGUE);
+    CHECK(open_in(&m, RESONANT2, SADDLEKERF_NUMBERS - 1, SADDLEKERF_MARKS) == SADDLEKERF_ROOM);
     CHECK(ask(&m, SADDLEKERF_NUMBERS, SADDLEKERF_MARKS, INT64_MIN, 6) == SADDLEKERF_TIME);
     CHECK(ask(&m, SADDLEKERF_NUMBERS, SADDLEKERF_MARKS, SADDLEKERF_TIME_LIMIT + 1, 6) == SADDLEKERF_TIME);
     CHECK(ask(&m, SADDLEKERF_NUMBERS, SADDLEKERF_MARKS, 0, 5) == SADDLEKERF_ROOM);
@@ -249,9 +365,58 @@ static void keep_memory(void)
     CHECK(m.refusals[1] == SADDLEKERF_ANSWERED && m.rounds[1] >= 1);
     for (i = 0; i < 6; i++)
         CHECK(bits(m.states[i]) == 0);
-    for (i = 12; i < 24; i++)
-        CHECK(bits(m.states[i]) == bits(0.25));
+    CHECK(marked(m.states, 12, 24));
     CHECK(m.refusals[2] == 0x55 && m.refusals[3] == 0x55 && m.rounds[2] == 0x55 && m.rounds[3] == 0x55);
+
+    /* a saved pair that no stride gives: 15, the state stays, and the place reached is saved all the same */
+    mark_doubles(m.states, SADDLEKERF_STATE * 4);
+    mark_doubles(m.numbers, 1);
+    CHECK(ask(&m, SADDLEKERF_NUMBERS, SADDLEKERF_MARKS, 1440 * MINUTE, 24) ==
+          (SADDLEKERF_STATE_NOT_FINITE | UINT64_C(1) << 32));
+    CHECK(marked(m.states, 0, 24));
+    CHECK(m.marks[0] == 0 && m.marks[1] == 2);
+}
+
+/* A null pointer is lent with 0 elements in the place of each array. */
+static void lend_nothing(void)
+{
+    const uint8_t *one = bytes(RESONANT1), *two = bytes(RESONANT2);
+    static const int64_t time[1];
+    struct memory m, before;
+    uint64_t instant = 42;
+    double *n = m.numbers, *x = m.states;
+    uint32_t *k = m.marks;
+    uint8_t *f = m.refusals, *r = m.rounds;
+
+    mark(&m);
+    CHECK(open_in(&m, RESONANT2, SADDLEKERF_NUMBERS, SADDLEKERF_MARKS) == SADDLEKERF_ANSWERED);
+    memcpy(&before, &m, sizeof m);
+    CHECK(saddlekerf_read(NULL, 0, two, LENGTH) == (SADDLEKERF_LENGTH | 1 << 8));
+    CHECK(saddlekerf_read(one, LENGTH, NULL, 0) == (SADDLEKERF_LENGTH | 2 << 8));
+    CHECK(saddlekerf_print(NULL, 0, NULL, 0, f, 4) == SADDLEKERF_ROOM);
+    CHECK(saddlekerf_print(one, LENGTH, two, LENGTH, NULL, 0) == SADDLEKERF_ROOM);
+    CHECK(saddlekerf_epoch(NULL, 0, two, LENGTH, &instant) == (SADDLEKERF_LENGTH | 1 << 8));
+    CHECK(saddlekerf_epoch(one, LENGTH, NULL, 0, &instant) == (SADDLEKERF_LENGTH | 2 << 8));
+    CHECK(saddlekerf_record(NULL, 0, two, LENGTH, NULL, 0) == (SADDLEKERF_LENGTH | 1 << 8));
+    CHECK(saddlekerf_record(one, LENGTH, NULL, 0, NULL, 0) == (SADDLEKERF_LENGTH | 2 << 8));
+    CHECK(saddlekerf_record(one, LENGTH, two, LENGTH, NULL, 0) == SADDLEKERF_ROOM);
+    CHECK(saddlekerf_write(NULL, 0, 1, f, 4) == SADDLEKERF_ROOM);
+    CHECK(saddlekerf_write(EXAMPLE, SADDLEKERF_FIELDS, 1, NULL, 0) == SADDLEKERF_ROOM);
+    CHECK(saddlekerf_open(NULL, 0, two, LENGTH, n, 83, k, 4) == (SADDLEKERF_LENGTH | 1 << 8));
+    CHECK(saddlekerf_open(one, LENGTH, NULL, 0, n, 83, k, 4) == (SADDLEKERF_LENGTH | 2 << 8));
+    CHECK(saddlekerf_open(one, LENGTH, two, LENGTH, NULL, 0, k, 4) == SADDLEKERF_ROOM);
+    CHECK(saddlekerf_open(one, LENGTH, two, LENGTH, n, 83, NULL, 0) == SADDLEKERF_ROOM);
+    CHECK(saddlekerf_request(NULL, 0, k, 4, 0, x, 6) == SADDLEKERF_ROOM);
+    CHECK(saddlekerf_request(n, 83, NULL, 0, 0, x, 6) == SADDLEKERF_ROOM);
+    CHECK(saddlekerf_request(n, 83, k, 4, 0, NULL, 0) == SADDLEKERF_ROOM);
+    CHECK(saddlekerf_request_list(NULL, 0, k, 4, time, 1, f, 1, x, 6, r, 1) == SADDLEKERF_ROOM);
+    CHECK(saddlekerf_request_list(n, 83, NULL, 0, time, 1, f, 1, x, 6, r, 1) == SADDLEKERF_ROOM);
+    CHECK(saddlekerf_request_list(n, 83, k, 4, NULL, 0, f, 1, x, 6, r, 1) == SADDLEKERF_ANSWERED);
+    CHECK(saddlekerf_request_list(n, 83, k, 4, time, 1, NULL, 0, x, 6, r, 1) == SADDLEKERF_ROOM);
+    CHECK(saddlekerf_request_list(n, 83, k, 4, time, 1, f, 1, NULL, 0, r, 1) == SADDLEKERF_ROOM);
+    CHECK(saddlekerf_request_list(n, 83, k, 4, time, 1, f, 1, x, 6, NULL, 0) == SADDLEKERF_ROOM);
+    CHECK(saddlekerf_request_list(n, 83, k, 4, NULL, 0, NULL, 0, NULL, 0, NULL, 0) == SADDLEKERF_ANSWERED);
+    CHECK(same(&m, &before) && instant == 42);
 }
 
 /* A row of the published set. */
@@ -288,13 +453,12 @@ static void ask_published(const saddlekerf_satellite *opened, const struct row *
     size_t i, k;
 
     for (i = 0; i < count; i++) {
-        double state[SADDLEKERF_STATE] = {0, 0, 0, 0, 0, 0};
+        double state[SADDLEKERF_STATE];
+        mark_doubles(state, SADDLEKERF_STATE);
         a = saddlekerf_satellite_request(&s, rows[i].time, state);
-        CHECK(saddlekerf_refusal(a) == rows[i].refusal);
-        CHECK(saddlekerf_rounds(a) == rows[i].rounds);
-        CHECK(saddlekerf_strides(a) == rows[i].strides);
+        CHECK(a == (rows[i].refusal | (uint64_t)rows[i].rounds << 8 | (uint64_t)rows[i].strides << 32));
         for (k = 0; k < SADDLEKERF_STATE; k++)
-            CHECK(bits(state[k]) == rows[i].bits[k]);
+            CHECK(bits(state[k]) == (rows[i].refusal == 0 ? rows[i].bits[k] : canary(k)));
         times[i] = rows[i].time;
         strides += rows[i].strides;
     }
@@ -319,6 +483,18 @@ static char *next_line(FILE *file, char *line, int size)
             return line;
     }
     return NULL;
+}
+
+/* The record of a pair, written: its two lines read as the same record again. */
+static void write_again(const char *line1, const char *line2)
+{
+    int64_t fields[SADDLEKERF_FIELDS], again[SADDLEKERF_FIELDS];
+    uint8_t one[LENGTH], two[LENGTH];
+    CHECK(saddlekerf_record(bytes(line1), LENGTH, bytes(line2), LENGTH, fields, SADDLEKERF_FIELDS) == 0);
+    CHECK(saddlekerf_written(saddlekerf_write(fields, SADDLEKERF_FIELDS, 1, one, LENGTH)) == LENGTH);
+    CHECK(saddlekerf_written(saddlekerf_write(fields, SADDLEKERF_FIELDS, 2, two, LENGTH)) == LENGTH);
+    CHECK(saddlekerf_record(one, LENGTH, two, LENGTH, again, SADDLEKERF_FIELDS) == 0);
+    CHECK(memcmp(fields, again, sizeof fields) == 0);
 }
 
 /* Every pair of the file: its two lines, then its rows, or `refused NUMBER ..`. */
@@ -346,6 +522,7 @@ static int ask_all_published(const char *path)
             more = next_line(file, line, sizeof line);
         } else {
             CHECK(a == SADDLEKERF_ANSWERED);
+            write_again(line1, line2);
         }
         for (; more != NULL && strcmp(more, "pair") != 0; more = next_line(file, line, sizeof line))
             if (count < SADDLEKERF_LIST_LIMIT)
@@ -366,10 +543,15 @@ int main(int argc, char **argv)
         printf("usage: c_example bench/vectors/published-rows.txt\n");
         return 1;
     }
+    one_version();
+    environment();
     print_example();
     read_at_the_edges();
+    read_record();
+    write_record();
     count_strides();
     keep_memory();
+    lend_nothing();
     CHECK(ask_all_published(argv[1]));
     printf("%ld checks, %ld failed\n", checks, failures);
     return failures == 0 ? 0 : 1;

@@ -1,11 +1,17 @@
 #!/usr/bin/env python3
 """Writes stdin and stdout of the crates published_rows and replay from bench/vectors/published-rows.txt.
 
+    published_rows.py [FOLDER]
+
 The expected output comes from that file and the rules of document 01, not from
-the programs. Run it in the folder that holds crates/ and tests/.
+the programs. The files go into crates/ under FOLDER, or of this repository where
+none is named. bench/tests/stored.rs makes them anew.
 """
 
+import sys
 from pathlib import Path
+
+ROOT = Path(__file__).resolve().parent.parent
 
 STRIDE = 43_200_000_000             # microseconds
 FARTHEST = 315_532_800_000_000
@@ -73,12 +79,17 @@ def replayed(found):
     return asked, answered
 
 
-def write(crate, asked, answered, last=""):
-    folder = Path("crates", crate)
+def write(folder, asked, answered, last=""):
+    folder.mkdir(parents=True, exist_ok=True)
     folder.joinpath("stdin").write_text("\n".join(asked) + last)
     folder.joinpath("stdout").write_text("\n".join(answered) + "\n")
 
 
-found = pairs(Path("bench/vectors/published-rows.txt").read_text())
-write("published_rows", *published(found), "\n")
-write("replay", *replayed(found))
+def main():
+    target = Path(sys.argv[1]) if len(sys.argv) > 1 else ROOT
+    found = pairs((ROOT / "bench/vectors/published-rows.txt").read_text())
+    write(target / "crates/published_rows", *published(found), "\n")
+    write(target / "crates/replay", *replayed(found))
+
+
+main()

@@ -6,9 +6,9 @@ use crate::generate::{self, Aim, Ask, AIMS};
 use crate::instant::DAY;
 use crate::library::{Library, Opened};
 use crate::random::Random;
-use crate::request::{Row, Satellite};
+use crate::request::{Row, Satellite, Saved};
 use crate::sgp4::{self, Elements};
-use crate::tle;
+use crate::tle::{self, Record};
 use std::collections::BTreeMap;
 
 /// How often each thing was met, by name.
@@ -58,9 +58,28 @@ fn case_random(seed: u64, kind: u64, index: u64) -> Random {
 
 const WHOLE: u64 = 1;
 const DAMAGED: u64 = 2;
+const HANDED: u64 = 3;
+const RECORD: u64 = 4;
 
-/// A row that no library writes, to see what it leaves alone.
-const MARK: Row = Row { refusal: 255, r: [1.0, 2.0, 3.0], v: [4.0, 5.0, 6.0], rounds: 77 };
+/// A state that no library writes, to see what it leaves alone: NaNs with bits of their own among it.
+const UNTOUCHED: [f64; 6] = [
+    f64::from_bits(0x7ff8_0000_dead_beef),
+    f64::from_bits(0xfff8_1234_5678_9abc),
+    3.0,
+    f64::from_bits(0x7ff8_0000_0000_0001),
+    -0.0,
+    6.0,
+];
+
+/// The same as a row.
+const MARK: Row = {
+    let [x, y, z, vx, vy, vz] = UNTOUCHED;
+    Row { refusal: 255, r: [x, y, z], v: [vx, vy, vz], rounds: 77 }
+};
+
+fn bits(numbers: &[f64; 6]) -> [u64; 6] {
+    numbers.map(f64::to_bits)
+}
 
 fn same_or(
     what: &str,
@@ -149,6 +168,18 @@ fn edges(random: &mut Random, line1: &[u8], line2: &[u8]) -> Vec<Ask> {
     asks
 }
 
+/// Times at which the port finds a number of the state not finite: in deep space where the perturbed
+/// inclination is half a turn.
+fn not_finite(random: &mut Random, line1: &[u8], line2: &[u8]) -> Vec<Ask> {
+    let Ok(record) = tle::read(line1, line2) else { return vec![] };
+    let Ok(satellite) = Satellite::<Document>::open(&record) else { return vec![] };
+    if !satellite.satrec.deep || record.inclination < 179_9900 {
+        return vec![];
+    }
+    let times = (0..200).map(|_| random.between(-20 * DAY, 20 * DAY));
+    times.filter(|&time| satellite.request_restarting(time).refusal == 15).map(Ask::One).collect()
+}
+
 fn ask_both(
     ask: &Ask,
     one: &mut dyn Opened,
@@ -157,10 +188,14 @@ fn ask_both(
 ) -> Result<(), String> {
     match ask {
         Ask::One(micros) => {
-            let (a, b) = (one.request(*micros), other.request(*micros));
-            tally.add(format!("row: refusal {:>2}", a.0.refusal), 1);
-            tally.add("strides", a.1);
-            same_or(&format!("time {micros}"), a.0.same(&b.0) && a.1 == b.1, &a, &b)
+            let (mut room, mut other_room) = (UNTOUCHED, UNTOUCHED);
+            let (a, b) = (one.request(*micros, &mut room), other.request(*micros, &mut other_room));
+            tally.add(format!("row: refusal {:>2}", a.refusal), 1);
+            tally.add("strides", a.strides);
+            let what = format!("time {micros}");
+            same_or(&what, a == b && bits(&room) == bits(&other_room), &(a, room), &(b, other_room))?;
+            let left = a.refusal == 0 || bits(&room) == bits(&UNTOUCHED);
+            same_or(&format!("{what}: the state lent"), left, &room, &UNTOUCHED)
         }
         Ask::List { times, room } => {
             let (mut rows, mut others) = (vec![MARK; *room], vec![MARK; *room]);
@@ -186,6 +221,61 @@ fn ask_both(
     }
 }
 
+/// The saved positions of both, where both keep one. All NaNs count as one.
+fn same_saved(one: &dyn Opened, other: &dyn Opened) -> Result<(), String> {
+    match (one.saved(), other.saved()) {
+        (Some(a), Some(b)) => same_or("saved position", a.same(&b), &a, &b),
+        _ => Ok(()),
+    }
+}
+
+fn ask_all(
+    asks: &[Ask],
+    one: &mut dyn Opened,
+    other: &mut dyn Opened,
+    tally: &mut Tally,
+) -> Result<(), String> {
+    same_saved(one, other)?;
+    for ask in asks {
+        ask_both(ask, one, other, tally)?;
+        same_saved(one, other).map_err(|what| format!("{what}\nafter {ask:?}"))?;
+    }
+    Ok(())
+}
+
+/// Both lines of a record, into rooms of any length: what is written, what lies past it, and what a
+/// refused call leaves. Lines written read as the record again.
+fn write_both(
+    random: &mut Random,
+    record: &Record,
+    libraries: (&dyn Library, &dyn Library),
+    tally: &mut Tally,
+) -> Result<(), String> {
+    let (one, other) = libraries;
+    let mut lines = vec![];
+    for which in [1, 2] {
+        let length = if random.one_in(8) { random.below(69) } else { 69 + random.below(4) } as usize;
+        let (mut room, mut other_room) = (vec![b'#'; length], vec![b'#'; length]);
+        let (a, b) = (one.write(record, which, &mut room), other.write(record, which, &mut other_room));
+        match a {
+            Ok(()) => tally.add("write: written", 1),
+            Err(refusal) => tally.add(format!("write: refusal {refusal}"), 1),
+        }
+        let text = |room: &[u8]| String::from_utf8_lossy(room).into_owned();
+        let shown = ((a, text(&room)), (b, text(&other_room)));
+        same_or(&format!("writing {record:?}"), shown.0 == shown.1, &shown.0, &shown.1)?;
+        if a.is_ok() {
+            room.truncate(69);
+            lines.push(room);
+        }
+    }
+    if let [line1, line2] = &lines[..] {
+        let again = other.record(line1, line2);
+        same_or("writing and reading again", again == Ok(*record), &again, record)?;
+    }
+    Ok(())
+}
+
 fn compare_pair(
     random: &mut Random,
     line1: &[u8],
@@ -205,6 +295,11 @@ fn compare_pair(
     let (a, b) = (one.print(line1, line2), other.print(line1, line2));
     let text = |bytes: &[u8]| String::from_utf8_lossy(bytes).into_owned();
     same_or("printing", a == b, &text(&a), &text(&b))?;
+    let (a, b) = (one.record(line1, line2), other.record(line1, line2));
+    same_or("record", a == b, &a, &b)?;
+    if let Ok(record) = a {
+        write_both(random, &record, libraries, tally)?;
+    }
     match (one.open(line1, line2), other.open(line1, line2)) {
         (Ok(mut a), Ok(mut b)) => {
             tally.add("open: opened", 1);
@@ -215,7 +310,8 @@ fn compare_pair(
                 tally.add("times at which the refusal changes", edges.len() as u64 / 2);
                 asks.extend(edges);
             }
-            asks.iter().try_for_each(|ask| ask_both(ask, a.as_mut(), b.as_mut(), tally))
+            asks.extend(not_finite(random, line1, line2));
+            ask_all(&asks, a.as_mut(), b.as_mut(), tally)
         }
         (a, b) => {
             let (a, b) = (a.err(), b.err());
@@ -262,6 +358,63 @@ pub fn damaged_case(
         case: format!("seed {seed}, damaged pair {index}"),
         line1: line1.escape_ascii().to_string(),
         line2: line2.escape_ascii().to_string(),
+        what,
+    })
+}
+
+/// Saved positions handed in, each followed by requests: "these rules hold for any satellite".
+fn hand_and_ask(
+    random: &mut Random,
+    one: &mut dyn Opened,
+    other: &mut dyn Opened,
+    tally: &mut Tally,
+) -> Result<(), String> {
+    for _ in 0..4 {
+        let saved: Saved = generate::saved(random);
+        one.hand(saved);
+        other.hand(saved);
+        tally.add("handed: positions", 1);
+        let asks = generate::sequence(random);
+        ask_all(&asks, one, other, tally).map_err(|what| format!("{what}\nhanded in: {saved:?}"))?;
+    }
+    Ok(())
+}
+
+/// Case `index` of the positions handed in.
+pub fn handed_case(
+    seed: u64,
+    index: u64,
+    libraries: (&dyn Library, &dyn Library),
+    tally: &mut Tally,
+) -> Result<(), Difference> {
+    let mut random = case_random(seed, HANDED, index);
+    let aim: Aim = AIMS[index as usize % AIMS.len()];
+    let (line1, line2) = generate::pair(&mut random, aim);
+    let (one, other) = libraries;
+    let (Ok(mut one), Ok(mut other)) = (one.open(&line1, &line2), other.open(&line1, &line2)) else {
+        return Ok(());
+    };
+    hand_and_ask(&mut random, one.as_mut(), other.as_mut(), tally).map_err(|what| Difference {
+        case: format!("seed {seed}, positions handed in {index} ({aim:?})"),
+        line1: line1.escape_ascii().to_string(),
+        line2: line2.escape_ascii().to_string(),
+        what,
+    })
+}
+
+/// Case `index` of the records to be written, inside layout and ranges or not.
+pub fn record_case(
+    seed: u64,
+    index: u64,
+    libraries: (&dyn Library, &dyn Library),
+    tally: &mut Tally,
+) -> Result<(), Difference> {
+    let mut random = case_random(seed, RECORD, index);
+    let record = generate::any_record(&mut random);
+    write_both(&mut random, &record, libraries, tally).map_err(|what| Difference {
+        case: format!("seed {seed}, record {index}"),
+        line1: String::new(),
+        line2: String::new(),
         what,
     })
 }

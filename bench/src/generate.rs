@@ -3,7 +3,7 @@
 
 use crate::instant::{DAY, SPAN_LIMIT};
 use crate::random::Random;
-use crate::request::{LIST_LIMIT, STRIDE};
+use crate::request::{Saved, LIST_LIMIT, STRIDE};
 use crate::sgp4::{RADIUSEARTHKM, XKE};
 use crate::tle::{self, Exponential, Record, LENGTH};
 
@@ -208,6 +208,58 @@ pub fn record(random: &mut Random, aim: Aim) -> Record {
     record
 }
 
+/// A record of which some fields may be outside layout and ranges: each at, beside or far from a limit.
+pub fn any_record(random: &mut Random) -> Record {
+    let mut record = anything(random);
+    for _ in 0..random.below(3) {
+        spoil(random, &mut record);
+    }
+    record
+}
+
+/// One field put at, beside or far from one of its limits.
+fn spoil(random: &mut Random, record: &mut Record) {
+    let off = *random.pick(&[-1, 0, 1, 1_000_000_007]);
+    let near = |limit: i64| limit + off;
+    let small = |limit: i64| near(limit).clamp(0, 255) as u8;
+    let short = |limit: i64| near(limit).clamp(0, 65_535) as u16;
+    let whole = |limit: i64| near(limit).clamp(0, u32::MAX as i64) as u32;
+    let long = |limit: i64| near(limit).max(0) as u64;
+    let signed = |limit: i64| near(limit).clamp(i32::MIN as i64, i32::MAX as i64) as i32;
+    let exponent = |limit: i64| near(limit).clamp(-128, 127) as i8;
+    let side = *random.pick(&[-1, 1]);
+    match random.below(17) {
+        0 => record.number = whole(99_999),
+        1 => record.classification = random.next_u64() as u8,
+        2 => {
+            record.designator[..5].copy_from_slice(b"58002");
+            record.designator[5 + random.below(3) as usize] = *random.pick(b" AZ@[a0\0");
+        }
+        3 => record.designator = *random.pick(&[*b"        ", *b"00001   ", *b"99999A A", *b"00000A  "]),
+        4 => record.year = *random.pick(&[short(1957), short(2056), 0, 57, 65_535]),
+        5 => record.day = *random.pick(&[long(1_0000_0000), long(367_0000_0000), 0, u64::MAX]),
+        6 => record.ndot = side * signed(9999_9999),
+        7 => record.nddot.mantissa = side * signed(99_999),
+        8 => record.nddot.exponent = *random.pick(&[exponent(9), exponent(-9), exponent(0)]),
+        9 => record.bstar.mantissa = *random.pick(&[side * signed(99_999), 0]),
+        10 => record.bstar.exponent = *random.pick(&[exponent(9), exponent(-9), exponent(0)]),
+        11 => record.ephemeris = small(9),
+        12 => record.set = short(9999),
+        13 => record.inclination = whole(180_0000),
+        14 => {
+            let angle = whole(360_0000);
+            let angles = [&mut record.node, &mut record.perigee, &mut record.anomaly];
+            *angles.into_iter().nth(random.below(3) as usize).expect("one of three") = angle;
+        }
+        15 => record.eccentricity = whole(999_9999),
+        _ => match random.below(3) {
+            0 => record.revolution = whole(99_999),
+            1 => record.motion = long(0),
+            _ => record.motion = *random.pick(&[long(99_9999_9999), u64::MAX]),
+        },
+    }
+}
+
 // -------------------------------------------------------------------- lines
 
 fn mend(line: &mut Line) {
@@ -396,4 +448,28 @@ fn list(random: &mut Random) -> Ask {
 pub fn sequence(random: &mut Random) -> Vec<Ask> {
     let count = 2 + random.below(7);
     (0..count).map(|_| if random.one_in(3) { list(random) } else { Ask::One(time(random)) }).collect()
+}
+
+/// A number of an integrated pair: one that strides give, or any f64 at all.
+fn integrated(random: &mut Random, low: f64, high: f64) -> f64 {
+    match random.below(8) {
+        0 => f64::from_bits(random.next_u64()),
+        1 => *random.pick(&[0.0, -0.0, f64::INFINITY, f64::NEG_INFINITY, f64::NAN, f64::MAX, 5e-324]),
+        _ => random.uniform(low, high),
+    }
+}
+
+/// Any saved position, whether or not requests lead to it.
+pub fn saved(random: &mut Random) -> Saved {
+    let stride = match random.below(4) {
+        0 => 0,
+        1 => random.below(u32::MAX as u64 + 1),
+        _ => random.below(14),
+    };
+    Saved {
+        forward: random.one_in(2),
+        stride,
+        xli: integrated(random, -7.0, 7.0),
+        xni: integrated(random, 0.003, 0.01),
+    }
 }

@@ -3,8 +3,8 @@
 
 use crate::elementary::{Document, Elementary};
 use crate::instant::{self, SPAN_LIMIT};
-use crate::request::{list_by, Row, Satellite, STRIDE};
-use crate::tle::{self, Refusal};
+use crate::request::{list_by, Row, Satellite, Saved, STRIDE};
+use crate::tle::{self, Record, Refusal};
 use std::hint::black_box;
 use std::marker::PhantomData;
 
@@ -32,6 +32,10 @@ pub trait Library {
     fn epoch(&self, line1: &[u8], line2: &[u8]) -> Result<u64, Refusal>;
     /// What the program prints for a pair.
     fn print(&self, line1: &[u8], line2: &[u8]) -> Vec<u8>;
+    /// The record of a pair; or as `read`.
+    fn record(&self, line1: &[u8], line2: &[u8]) -> Result<Record, Refusal>;
+    /// Writes line 1 or 2 of a record at the front of the room lent; or 16, 17.
+    fn write(&self, record: &Record, which: u8, room: &mut [u8]) -> Result<(), u8>;
     /// Reads and opens a pair.
     fn open(&self, line1: &[u8], line2: &[u8]) -> Result<Box<dyn Opened>, Unopened>;
     /// For timing: reads a pair.
@@ -42,11 +46,33 @@ pub trait Library {
     fn lister(&self, line1: &[u8], line2: &[u8], times: &[i64]) -> Box<dyn Timed>;
 }
 
+/// What a single request tells beside its state.
+#[derive(Clone, Copy, Debug, PartialEq, Eq)]
+pub struct Told {
+    /// 0 where the time is answered.
+    pub refusal: u8,
+    pub rounds: u32,
+    pub strides: u64,
+}
+
 pub trait Opened {
-    /// The row of one time, and the strides reported.
-    fn request(&mut self, micros: i64) -> (Row, u64);
+    /// One time: position and velocity go into the room lent, which stays where the time is refused.
+    fn request(&mut self, micros: i64, room: &mut [f64; 6]) -> Told;
     /// Rows to the front of the room lent, and the strides reported; or 18, 17.
     fn list(&mut self, times: &[i64], rows: &mut [Row]) -> Result<u64, u8>;
+    /// The saved position, where the library keeps one.
+    fn saved(&self) -> Option<Saved>;
+    /// Another saved position is handed in.
+    fn hand(&mut self, saved: Saved);
+}
+
+/// A row told as a single request tells it.
+fn tell((row, strides): (Row, u64), room: &mut [f64; 6]) -> Told {
+    if row.refusal == 0 {
+        let ([x, y, z], [vx, vy, vz]) = (row.r, row.v);
+        *room = [x, y, z, vx, vy, vz];
+    }
+    Told { refusal: row.refusal, rounds: row.rounds, strides }
 }
 
 /// One call to be timed. All it needs is made ready outside of `run`.
@@ -82,6 +108,14 @@ impl<E: Elementary + Copy + 'static> Library for Port<E> {
 
     fn print(&self, line1: &[u8], line2: &[u8]) -> Vec<u8> {
         tle::print(line1, line2).into_bytes()
+    }
+
+    fn record(&self, line1: &[u8], line2: &[u8]) -> Result<Record, Refusal> {
+        tle::read(line1, line2)
+    }
+
+    fn write(&self, record: &Record, which: u8, room: &mut [u8]) -> Result<(), u8> {
+        tle::write(record, which, room)
     }
 
     fn epoch(&self, line1: &[u8], line2: &[u8]) -> Result<u64, Refusal> {
@@ -167,12 +201,20 @@ impl<S: Opened + Copy> Timed for Lister<S> {
 }
 
 impl<E: Elementary> Opened for Satellite<E> {
-    fn request(&mut self, micros: i64) -> (Row, u64) {
-        Satellite::request(self, micros)
+    fn request(&mut self, micros: i64, room: &mut [f64; 6]) -> Told {
+        tell(Satellite::request(self, micros), room)
     }
 
     fn list(&mut self, times: &[i64], rows: &mut [Row]) -> Result<u64, u8> {
         Satellite::list(self, times, rows)
+    }
+
+    fn saved(&self) -> Option<Saved> {
+        Some(self.saved)
+    }
+
+    fn hand(&mut self, saved: Saved) {
+        self.saved = saved;
     }
 }
 
@@ -210,6 +252,14 @@ impl<E: Elementary + Copy + 'static> Library for Restarting<E> {
 
     fn print(&self, line1: &[u8], line2: &[u8]) -> Vec<u8> {
         self.0.print(line1, line2)
+    }
+
+    fn record(&self, line1: &[u8], line2: &[u8]) -> Result<Record, Refusal> {
+        self.0.record(line1, line2)
+    }
+
+    fn write(&self, record: &Record, which: u8, room: &mut [u8]) -> Result<(), u8> {
+        self.0.write(record, which, room)
     }
 
     fn epoch(&self, line1: &[u8], line2: &[u8]) -> Result<u64, Refusal> {
@@ -270,14 +320,26 @@ impl<E: Elementary> RestartingSatellite<E> {
         };
         m - saved
     }
+
+    fn row(&mut self, micros: i64) -> (Row, u64) {
+        (self.satellite.request_restarting(micros), self.count(micros))
+    }
 }
 
 impl<E: Elementary> Opened for RestartingSatellite<E> {
-    fn request(&mut self, micros: i64) -> (Row, u64) {
-        (self.satellite.request_restarting(micros), self.count(micros))
+    fn request(&mut self, micros: i64, room: &mut [f64; 6]) -> Told {
+        tell(self.row(micros), room)
     }
 
     fn list(&mut self, times: &[i64], rows: &mut [Row]) -> Result<u64, u8> {
-        list_by(times, rows, |micros| self.request(micros))
+        list_by(times, rows, |micros| self.row(micros))
+    }
+
+    fn saved(&self) -> Option<Saved> {
+        None
+    }
+
+    fn hand(&mut self, _: Saved) {
+        unreachable!("it keeps no position")
     }
 }

@@ -1,9 +1,9 @@
 //! The proved library, called over its C boundary by the safe wrapper in rust/.
 
-use crate::library::{Library, Opened, Reader, Timed, Unopened};
-use crate::request::Row;
-use crate::tle;
-use saddlekerf::{Field, Line, Microseconds, Refusal, Rooms, Satellite, State};
+use crate::library::{Library, Opened, Reader, Timed, Told, Unopened};
+use crate::request::{Row, Saved};
+use crate::tle::{self, Exponential};
+use saddlekerf::{Field, Line, Microseconds, Record, Refusal, Rooms, Satellite, State};
 use std::hint::black_box;
 
 pub struct Proved;
@@ -46,6 +46,68 @@ fn unread(refusal: Refusal) -> tle::Refusal {
     }
 }
 
+fn exponential(x: saddlekerf::Exponential) -> Exponential {
+    Exponential { mantissa: x.mantissa, exponent: x.exponent }
+}
+
+fn proved_exponential(x: Exponential) -> saddlekerf::Exponential {
+    saddlekerf::Exponential { mantissa: x.mantissa, exponent: x.exponent }
+}
+
+const BLANK: [u8; 3] = *b"   ";
+
+/// The library's record in the port's terms: the designator as its eight columns.
+fn record(r: Record) -> tle::Record {
+    let text = match (r.launch, r.piece) {
+        (0, BLANK) => " ".repeat(8),
+        (launch, piece) => format!("{launch:05}{}", piece.escape_ascii()),
+    };
+    tle::Record {
+        number: r.number,
+        classification: r.class,
+        designator: text.as_bytes().try_into().expect("eight columns"),
+        year: r.year,
+        day: r.day,
+        ndot: r.ndot,
+        nddot: exponential(r.nddot),
+        bstar: exponential(r.bstar),
+        ephemeris: r.ephemeris_type,
+        set: r.set,
+        inclination: r.inclination,
+        node: r.node,
+        eccentricity: r.eccentricity,
+        perigee: r.perigee,
+        anomaly: r.anomaly,
+        motion: r.motion,
+        revolution: r.revolution,
+    }
+}
+
+/// The port's record in the library's terms. A designator's first five columns are blank or digits.
+fn proved_record(r: &tle::Record) -> Record {
+    let (launch, piece) = r.designator.split_at(5);
+    Record {
+        number: r.number,
+        class: r.classification,
+        launch: launch.iter().fold(0, |n, &byte| 10 * n + (byte & 15) as u32),
+        piece: piece.try_into().expect("three columns"),
+        year: r.year,
+        day: r.day,
+        ndot: r.ndot,
+        nddot: proved_exponential(r.nddot),
+        bstar: proved_exponential(r.bstar),
+        ephemeris_type: r.ephemeris,
+        set: r.set,
+        inclination: r.inclination,
+        node: r.node,
+        eccentricity: r.eccentricity,
+        perigee: r.perigee,
+        anomaly: r.anomaly,
+        motion: r.motion,
+        revolution: r.revolution,
+    }
+}
+
 impl Library for Proved {
     fn name(&self) -> String {
         "proved library".to_string()
@@ -61,6 +123,21 @@ impl Library for Proved {
 
     fn print(&self, line1: &[u8], line2: &[u8]) -> Vec<u8> {
         saddlekerf::printed(line1, line2).into_bytes()
+    }
+
+    fn record(&self, line1: &[u8], line2: &[u8]) -> Result<tle::Record, tle::Refusal> {
+        Record::read(line1, line2).map(record).map_err(unread)
+    }
+
+    fn write(&self, record: &tle::Record, which: u8, room: &mut [u8]) -> Result<(), u8> {
+        let line = if which == 1 { Line::One } else { Line::Two };
+        match proved_record(record).write_line(line, room) {
+            Ok(written) => {
+                assert_eq!(written.len(), Record::LINE);
+                Ok(())
+            }
+            Err(refusal) => Err(refusal.number()),
+        }
     }
 
     fn open(&self, line1: &[u8], line2: &[u8]) -> Result<Box<dyn Opened>, Unopened> {
@@ -116,16 +193,25 @@ impl Memory {
     }
 }
 
+/// Where the saved position lies in a satellite's memory (crates/storage/specs/Storage.antt).
+const XLI: usize = 0;
+const XNI: usize = 1;
+const SIDE: usize = 0;
+const STRIDE_NUMBER: usize = 1;
+
 impl Opened for Satellite {
-    fn request(&mut self, micros: i64) -> (Row, u64) {
-        let answer = Satellite::request(self, Microseconds(micros));
-        let row = match answer.row {
-            Ok(saddlekerf::Row { state, rounds }) => {
-                Row { refusal: 0, r: state.position, v: state.velocity, rounds: rounds as u32 }
-            }
-            Err(refusal) => Row { refusal: refusal.number(), ..Row::EMPTY },
-        };
-        (row, answer.strides.0 as u64)
+    /// The library's own memory throughout: the state lent to it is what comes back.
+    fn request(&mut self, micros: i64, room: &mut [f64; 6]) -> Told {
+        let [x, y, z, vx, vy, vz] = *room;
+        let mut state = State { position: [x, y, z], velocity: [vx, vy, vz] };
+        let (rounds, strides) = self.request_into(Microseconds(micros), &mut state);
+        let ([x, y, z], [vx, vy, vz]) = (state.position, state.velocity);
+        *room = [x, y, z, vx, vy, vz];
+        let strides = strides.0 as u64;
+        match rounds {
+            Ok(rounds) => Told { refusal: 0, rounds: rounds as u32, strides },
+            Err(refusal) => Told { refusal: refusal.number(), rounds: 0, strides },
+        }
     }
 
     /// The rooms hold what the rows hold before and give all of them back, so that what is written
@@ -133,11 +219,30 @@ impl Opened for Satellite {
     fn list(&mut self, times: &[i64], rows: &mut [Row]) -> Result<u64, u8> {
         let times: Vec<Microseconds> = times.iter().copied().map(Microseconds).collect();
         let mut memory = Memory::of(rows);
-        let answer = Satellite::list(self, &times, &mut memory.lend());
+        let answer = Satellite::list(self, &times, &mut memory.lend()).map(|listed| listed.strides());
         for (place, row) in rows.iter_mut().enumerate() {
             *row = memory.row(place);
         }
         answer.map(|strides| strides.0 as u64).map_err(Refusal::number)
+    }
+
+    fn saved(&self) -> Option<Saved> {
+        let (numbers, marks) = self.memory();
+        Some(Saved {
+            forward: marks[SIDE] == 0,
+            stride: marks[STRIDE_NUMBER] as u64,
+            xli: numbers[XLI],
+            xni: numbers[XNI],
+        })
+    }
+
+    fn hand(&mut self, saved: Saved) {
+        let (numbers, marks) = self.memory();
+        let (mut numbers, mut marks) = (*numbers, *marks);
+        (numbers[XLI], numbers[XNI]) = (saved.xli, saved.xni);
+        marks[SIDE] = if saved.forward { 0 } else { 1 };
+        marks[STRIDE_NUMBER] = saved.stride.try_into().expect("a stride number");
+        *self = Satellite::from_memory(numbers, marks);
     }
 }
 
@@ -169,7 +274,9 @@ impl Timed for Lister {
     }
 
     fn run(&mut self) {
-        let strides = self.satellite.list(black_box(&self.times), &mut self.memory.lend());
-        black_box((strides.expect("a lawful list"), &mut self.memory));
+        let mut rooms = self.memory.lend();
+        let rows = self.satellite.list(black_box(&self.times), &mut rooms);
+        black_box(rows.expect("a lawful list").strides());
+        black_box(&mut self.memory);
     }
 }

@@ -1,11 +1,11 @@
 //! The short run of the comparison; `cargo run --release --bin compare` is the long one.
 
-use port::compare::{damaged_case, whole_case, Tally};
+use port::compare::{damaged_case, handed_case, record_case, whole_case, Tally};
 use port::elementary::{Document, DocumentProcessor, Libm};
-use port::library::{Library, Opened, Port, Restarting, Timed, Unopened};
+use port::library::{Library, Opened, Port, Restarting, Timed, Told, Unopened};
 use port::proved::Proved;
-use port::request::Row;
-use port::tle::{self, Field, Refusal, LENGTH};
+use port::request::{Row, Saved};
+use port::tle::{self, Field, Record, Refusal, LENGTH};
 use std::io::Write;
 
 const SEED: u64 = 72;
@@ -61,11 +61,60 @@ fn port_against_the_proved_library() {
         "row: refusal 12",
         "row: refusal 13",
         "row: refusal 14",
+        "row: refusal 15",
         "list: answered",
         "list: refusal 17",
         "list: refusal 18",
+        "write: written",
+        "write: refusal 17",
     ] {
         assert!(tally.of(name) >= 5, "{name}: {}", tally.of(name));
+    }
+}
+
+/// Records inside layout and ranges and outside, written.
+#[test]
+fn records_written() {
+    let (port, mut tally) = (Port::<Document>::new(), Tally::default());
+    for index in 0..20_000 {
+        record_case(SEED, index, (&port, &Proved), &mut tally).unwrap_or_else(|found| panic!("{found}"));
+    }
+    println!("{tally}");
+    for name in ["write: written", "write: refusal 16", "write: refusal 17"] {
+        assert!(tally.of(name) >= 1000, "{name}: {}", tally.of(name));
+    }
+}
+
+/// The record of every published pair, written and read again.
+#[test]
+fn published_records_written() {
+    let mut count = 0;
+    for (line1, line2) in port::published::pairs() {
+        let record = Proved.record(&line1, &line2);
+        assert_eq!(record, tle::read(&line1, &line2));
+        let Ok(record) = record else { continue };
+        let mut lines = [[b'#'; LENGTH + 2]; 2];
+        for (which, line) in [1, 2].into_iter().zip(&mut lines) {
+            assert_eq!(Proved.write(&record, which, line), Ok(()));
+            assert_eq!(line[..LENGTH], tle::written(&record, which).unwrap());
+            assert_eq!(line[LENGTH..], *b"##");
+        }
+        assert_eq!(Proved.record(&lines[0][..LENGTH], &lines[1][..LENGTH]), Ok(record));
+        count += 1;
+    }
+    assert!(count >= 28, "{count}");
+}
+
+/// Any saved position handed in, on the proved library too.
+#[test]
+fn positions_handed_in() {
+    let (port, mut tally) = (Port::<Document>::new(), Tally::default());
+    for index in 0..560 {
+        handed_case(SEED, index, (&port, &Proved), &mut tally).unwrap_or_else(|found| panic!("{found}"));
+    }
+    println!("{tally}");
+    for name in ["handed: positions", "row: refusal  0", "row: refusal 15", "list: answered", "strides"] {
+        assert!(tally.of(name) >= 20, "{name}: {}", tally.of(name));
     }
 }
 
@@ -135,12 +184,34 @@ enum Slip {
     PastTheLast,
     /// A list's last row left unwritten.
     Unwritten,
+    /// The state lent to a refused single request overwritten with zeros.
+    StateOfRefused,
+    /// Refusal 15 told as 14.
+    NotFinite,
+    /// A bit of the saved pair after a request.
+    Place,
+    /// The saved position lost after a time out of range.
+    PlaceAfterNine,
+    /// A position handed in ignored: the satellite asked as if newly opened.
+    Handed,
+    /// A position handed in taken up on either side of the epoch.
+    EitherSide,
     Column,
     Line,
     Field,
     OpenColumn,
     Epoch,
     Text,
+    /// A field of a record read.
+    RecordField,
+    /// A byte of a line written, its checksum as it was.
+    Written,
+    /// A write past the line.
+    PastTheLine,
+    /// A write into a room that is too short.
+    ShortRoom,
+    /// A record outside its ranges written as one inside.
+    Unlawful,
 }
 
 /// The proved library with a slip. Rows slip only once, after `at` others that could have.
@@ -151,6 +222,8 @@ struct Slipping {
 
 struct SlippingSatellite {
     inner: Box<dyn Opened>,
+    fresh: Saved,
+    handed: bool,
     slip: Slip,
     left: u64,
 }
@@ -182,9 +255,40 @@ impl Library for Slipping {
         text
     }
 
+    fn record(&self, line1: &[u8], line2: &[u8]) -> Result<Record, Refusal> {
+        let off = matches!(self.slip, Slip::RecordField) as i8;
+        Proved.record(line1, line2).map(|mut record| {
+            record.bstar.exponent ^= off;
+            record
+        })
+    }
+
+    fn write(&self, record: &Record, which: u8, room: &mut [u8]) -> Result<(), u8> {
+        let mut answer = Proved.write(record, which, room);
+        match (self.slip, answer) {
+            (Slip::Written, Ok(())) => room[4] ^= 1,
+            (Slip::PastTheLine, Ok(())) if room.len() > LENGTH => room[LENGTH] = 0,
+            (Slip::ShortRoom, Err(17)) if !room.is_empty() => room[0] = b'1',
+            (Slip::Unlawful, Err(16)) => {
+                answer = Proved.write(&Record { node: record.node % 360_0000, ..*record }, which, room)
+            }
+            _ => {}
+        }
+        answer
+    }
+
     fn open(&self, line1: &[u8], line2: &[u8]) -> Result<Box<dyn Opened>, Unopened> {
         match Proved.open(line1, line2) {
-            Ok(inner) => Ok(Box::new(SlippingSatellite { inner, slip: self.slip, left: self.at })),
+            Ok(inner) => {
+                let fresh = inner.saved().unwrap();
+                Ok(Box::new(SlippingSatellite {
+                    inner,
+                    fresh,
+                    handed: false,
+                    slip: self.slip,
+                    left: self.at,
+                }))
+            }
             Err(Unopened::Unread(Refusal::Layout { line, column })) => {
                 let off = matches!(self.slip, Slip::OpenColumn) as u8;
                 Err(Unopened::Unread(Refusal::Layout { line, column: column + off }))
@@ -222,19 +326,59 @@ impl SlippingSatellite {
             },
             (Slip::Zero, 9..) if self.now() => flip(&mut row.v[1], 63),
             (Slip::Rounds, 0) if self.now() => row.rounds += 1,
+            (Slip::NotFinite, 15) => row.refusal = 14,
             _ => {}
         }
+    }
+
+    /// What slips in a position handed in, when the next time is asked.
+    fn taken(&mut self, micros: i64) {
+        let saved = self.inner.saved().unwrap();
+        match self.slip {
+            Slip::Handed if std::mem::take(&mut self.handed) => self.inner.hand(self.fresh),
+            Slip::EitherSide => self.inner.hand(Saved { forward: micros >= 0, ..saved }),
+            _ => {}
+        }
+    }
+
+    /// What slips in the saved position after a request.
+    fn place(&mut self, refusal: u8) {
+        let mut saved = self.inner.saved().unwrap();
+        match (self.slip, refusal) {
+            (Slip::Place, _) => saved.xni = f64::from_bits(saved.xni.to_bits() ^ 1),
+            (Slip::PlaceAfterNine, 9) => saved = self.fresh,
+            _ => return,
+        }
+        self.inner.hand(saved);
     }
 }
 
 impl Opened for SlippingSatellite {
-    fn request(&mut self, micros: i64) -> (Row, u64) {
-        let (mut row, mut strides) = self.inner.request(micros);
+    fn request(&mut self, micros: i64, room: &mut [f64; 6]) -> Told {
+        self.taken(micros);
+        let Told { refusal, rounds, mut strides } = self.inner.request(micros, room);
+        let [x, y, z, vx, vy, vz] = *room;
+        let mut row = Row { refusal, r: [x, y, z], v: [vx, vy, vz], rounds };
         self.row(&mut row);
+        self.place(refusal);
         if matches!(self.slip, Slip::Strides) && self.now() {
             strides += 1;
         }
-        (row, strides)
+        let ([x, y, z], [vx, vy, vz]) = (row.r, row.v);
+        *room = [x, y, z, vx, vy, vz];
+        if matches!(self.slip, Slip::StateOfRefused) && refusal != 0 {
+            *room = [0.0; 6];
+        }
+        Told { refusal: row.refusal, rounds: row.rounds, strides }
+    }
+
+    fn saved(&self) -> Option<Saved> {
+        self.inner.saved()
+    }
+
+    fn hand(&mut self, saved: Saved) {
+        self.inner.hand(saved);
+        self.handed = true;
     }
 
     fn list(&mut self, times: &[i64], rows: &mut [Row]) -> Result<u64, u8> {
@@ -257,7 +401,9 @@ fn found(slip: Slip, at: u64) -> String {
     let mut tally = Tally::default();
     for index in 0..400 {
         let whole = whole_case(SEED, index, libraries, &mut tally);
-        if let Err(difference) = whole.and_then(|()| damaged_case(SEED, index, libraries, &mut tally)) {
+        let other = whole.and_then(|()| damaged_case(SEED, index, libraries, &mut tally));
+        let other = other.and_then(|()| handed_case(SEED, index, libraries, &mut tally));
+        if let Err(difference) = other.and_then(|()| record_case(SEED, index, libraries, &mut tally)) {
             return difference.what;
         }
     }
@@ -287,6 +433,12 @@ fn every_other_slip_is_seen() {
         (Slip::Rounds, ["time ", "list "]),
         (Slip::Zero, ["time ", "list "]),
         (Slip::Strides, ["time "; 2]),
+        (Slip::StateOfRefused, ["time "; 2]),
+        (Slip::NotFinite, ["time ", "list "]),
+        (Slip::Place, ["saved "; 2]),
+        (Slip::PlaceAfterNine, ["saved "; 2]),
+        (Slip::Handed, ["time ", "saved "]),
+        (Slip::EitherSide, ["time ", "saved "]),
         (Slip::PastTheLast, ["list "; 2]),
         (Slip::Unwritten, ["list "; 2]),
         (Slip::Column, ["reading"; 2]),
@@ -295,6 +447,11 @@ fn every_other_slip_is_seen() {
         (Slip::OpenColumn, ["opening"; 2]),
         (Slip::Epoch, ["epoch"; 2]),
         (Slip::Text, ["printing"; 2]),
+        (Slip::RecordField, ["record"; 2]),
+        (Slip::Written, ["writing"; 2]),
+        (Slip::PastTheLine, ["writing"; 2]),
+        (Slip::ShortRoom, ["writing"; 2]),
+        (Slip::Unlawful, ["writing"; 2]),
     ] {
         let what = found(slip, 0);
         assert!(starts.iter().any(|start| what.starts_with(start)), "{slip:?}: {what}");

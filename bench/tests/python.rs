@@ -1,8 +1,9 @@
 //! The port against the Python programs in tests/, written apart from it: the
-//! reader of two-line sets over whole and damaged pairs, and the arithmetic on
-//! instants. Two independent readings of document 01 have to agree before the
+//! reader of two-line sets over whole and damaged pairs, the arithmetic on
+//! instants, and the sine and cosine of large angles. Two independent readings of document 01 have to agree before the
 //! proved code is held against either.
 
+use port::elementary::{Document, Elementary};
 use port::generate;
 use port::instant;
 use port::random::Random;
@@ -137,4 +138,21 @@ fn instants() {
         count += 1;
     }
     assert!(count >= 600, "{count}");
+}
+
+#[test]
+fn large_angles() {
+    let text = String::from_utf8(python(&["tests/large_angles.py"])).unwrap();
+    for line in text.lines() {
+        let words: Vec<&str> = line.split(' ').collect();
+        let number = |word: &str| f64::from_bits(u64::from_str_radix(word, 16).unwrap());
+        let (sine, cosine) = Document::sin_cos(number(words[1]));
+        let result = if words[0] == "sin" { sine } else { cosine };
+        assert_eq!(result.to_bits(), number(words[2]).to_bits(), "{line}");
+    }
+    // The crate's input is the published vectors and then these.
+    let port = Path::new(env!("CARGO_MANIFEST_DIR"));
+    let stored = std::fs::read_to_string(port.join("../crates/elementary_vectors/stdin")).unwrap();
+    let published = std::fs::read_to_string(port.join("vectors/elementary.txt")).unwrap();
+    assert_eq!(stored, published + &text);
 }

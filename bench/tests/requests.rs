@@ -6,6 +6,7 @@ use port::instant::{DAY, SPAN_LIMIT};
 use port::random::Random;
 use port::request::{Row, Satellite, Saved, STRIDE};
 use port::tle;
+use saddlekerf::{Microseconds, Rooms, State};
 
 const MINUTE: i64 = 60_000_000;
 
@@ -104,4 +105,123 @@ fn any_saved_position() {
     assert_eq!(satellite.request(0).1, 0);
     assert!(satellite.saved.forward && satellite.saved.stride == 0);
     assert!(satellite.saved.xli.is_finite());
+}
+
+// ---------------------------------------------- the proved library, of any memory
+
+type Memory = ([f64; 83], [u32; 4]);
+
+/// Memory that no opening wrote: a published satellite's with some of it changed, or numbers at random.
+fn any_memory(random: &mut Random, opened: &saddlekerf::Satellite) -> Memory {
+    let (numbers, marks) = opened.memory();
+    let (mut numbers, mut marks) = (*numbers, *marks);
+    let odds = *random.pick(&[1, 4, 40]);
+    for number in &mut numbers {
+        if random.one_in(odds) {
+            *number = match random.below(4) {
+                0 => f64::from_bits(random.next_u64()),
+                1 => *random.pick(&[0.0, -0.0, f64::NAN, f64::INFINITY, -1.0, f64::MAX]),
+                _ => random.uniform(-2.0, 2.0),
+            };
+        }
+    }
+    for mark in &mut marks {
+        if random.one_in(2) {
+            *mark = *random.pick(&[0, 1, 2, 3, 5, 7304, u32::MAX]);
+        }
+    }
+    (numbers, marks)
+}
+
+/// Bits, with one pattern for all NaNs.
+fn one_nan(x: f64) -> u64 {
+    if x.is_nan() {
+        f64::NAN.to_bits()
+    } else {
+        x.to_bits()
+    }
+}
+
+fn pattern((numbers, marks): (&[f64; 83], &[u32; 4])) -> ([u64; 83], [u32; 4]) {
+    (numbers.map(one_nan), *marks)
+}
+
+/// The strides that document 01 counts from the saved position, and the position's side and number after.
+fn expected(marks: &[u32; 4], time: i64) -> (u32, [u32; 2]) {
+    let m = if marks[3] < 2 { 0 } else { (time.unsigned_abs() / STRIDE as u64) as u32 };
+    let forward = m == 0 || time > 0;
+    let resumes = (marks[1] == 0 || (marks[0] == 0) == forward) && m >= marks[1];
+    (if resumes { m - marks[1] } else { m }, [if forward { 0 } else { 1 }, m])
+}
+
+/// One time put to any memory: what it tells, and what it writes.
+fn ask_any(satellite: &mut saddlekerf::Satellite, time: i64) -> (u8, [u64; 6], u8, u32) {
+    let mark = State { position: [f64::from_bits(0x7ff8_0000_0000_0777); 3], velocity: [-0.0; 3] };
+    let bits = |s: &State| {
+        let ([x, y, z], [vx, vy, vz]) = (s.position, s.velocity);
+        [x, y, z, vx, vy, vz].map(f64::to_bits)
+    };
+    let (before, before_bits) = (satellite.clone(), satellite.memory().0.map(f64::to_bits));
+    let mut state = mark;
+    let (rounds, strides) = satellite.request_into(Microseconds(time), &mut state);
+    let (was, is) = (before.memory(), satellite.memory());
+    assert_eq!(
+        (before_bits[2..].to_vec(), &was.1[2..]),
+        (is.0[2..].iter().map(|x| x.to_bits()).collect(), &is.1[2..])
+    );
+    if time.unsigned_abs() > SPAN_LIMIT as u64 {
+        assert_eq!((rounds.map_err(|r| r.number()), strides.0), (Err(9), 0));
+        assert_eq!((is.0.map(f64::to_bits), is.1), (before_bits, was.1));
+    } else {
+        let (taken, place) = expected(was.1, time);
+        assert_eq!((strides.0, &is.1[..2]), (taken, &place[..]), "{:?} {time}", was.1);
+    }
+    match rounds {
+        Ok(rounds) => {
+            assert!(
+                bits(&state).iter().all(|&b| f64::from_bits(b).is_finite()) && (1..=10).contains(&rounds)
+            );
+            (0, bits(&state), rounds, strides.0)
+        }
+        Err(refusal) => {
+            assert!((9..=15).contains(&refusal.number()));
+            assert_eq!(bits(&state), bits(&mark));
+            (refusal.number(), [0; 6], 0, strides.0)
+        }
+    }
+}
+
+/// The rules of requests for memory that holds anything, and a list beside its times one by one.
+#[test]
+fn any_satellite_handed_to_the_proved_library() {
+    let mut random = Random::new(83);
+    let mut refusals = [0u32; 16];
+    for (line1, line2) in port::published::pairs() {
+        let Ok(opened) = saddlekerf::Satellite::open(&line1, &line2) else { continue };
+        for _ in 0..40 {
+            let (numbers, marks) = any_memory(&mut random, &opened);
+            let mut one_by_one = saddlekerf::Satellite::from_memory(numbers, marks);
+            let mut listed = one_by_one.clone();
+            let times: Vec<i64> = (0..6).map(|_| port::generate::time(&mut random)).collect();
+            let told: Vec<_> = times.iter().map(|&time| ask_any(&mut one_by_one, time)).collect();
+            let (mut numbers, mut states, mut rounds) = ([7; 6], [State::default(); 6], [7; 6]);
+            let mut rooms = Rooms { refusals: &mut numbers, states: &mut states, rounds: &mut rounds };
+            let times: Vec<Microseconds> = times.into_iter().map(Microseconds).collect();
+            let strides = listed.list(&times, &mut rooms).unwrap().strides();
+            assert_eq!(strides.0, told.iter().map(|row| row.3).sum::<u32>());
+            for (place, row) in told.iter().enumerate() {
+                let State { position: [x, y, z], velocity: [vx, vy, vz] } = states[place];
+                let bits = [x, y, z, vx, vy, vz].map(f64::to_bits);
+                assert_eq!((numbers[place], bits, rounds[place]), (row.0, row.1, row.2));
+                refusals[row.0 as usize] += 1;
+            }
+            let (one, other) = (one_by_one.memory(), listed.memory());
+            let reached = times.iter().any(|time| time.0.unsigned_abs() <= SPAN_LIMIT as u64);
+            assert!(!reached || pattern(one) == pattern(other), "{marks:?} {times:?}");
+        }
+    }
+    println!("{refusals:?}");
+    for refusal in [0, 9, 10, 11, 12, 14, 15] {
+        assert!(refusals[refusal] >= 10, "{refusals:?}");
+    }
 }

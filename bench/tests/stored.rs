@@ -27,21 +27,50 @@ fn instant_cases() {
     assert!(made == stored("crates/instant_cases/stdin"));
 }
 
-#[test]
-fn read_pairs() {
-    let folder = std::env::temp_dir().join(format!("read-pairs-{}", std::process::id()));
+/// A script that writes what a program is run on and what it must print, held
+/// to what is stored in the program's crate.
+fn written(script: &str, program: &str) {
+    let name = program.replace('/', "-");
+    let folder = std::env::temp_dir().join(format!("{name}-{}", std::process::id()));
     fs::create_dir_all(&folder).unwrap();
     let (input, expected) = (folder.join("stdin"), folder.join("stdout"));
-    output(
-        Command::new("python3")
-            .arg(root().join("tests/tle_pairs.py"))
-            .arg("--write")
-            .arg(&input)
-            .arg(&expected),
-    );
-    assert!(fs::read(input).unwrap() == stored("crates/read_pairs/stdin"));
-    assert!(fs::read(expected).unwrap() == stored("crates/read_pairs/stdout"));
+    output(Command::new("python3").arg(root().join(script)).arg("--write").arg(&input).arg(&expected));
+    assert!(fs::read(input).unwrap() == stored(&format!("{program}/stdin")));
+    assert!(fs::read(expected).unwrap() == stored(&format!("{program}/stdout")));
     fs::remove_dir_all(folder).unwrap();
+}
+
+/// Inputs and outputs of both programs, made from the published rows, which vectors.rs holds to the port.
+#[test]
+fn published_rows_and_replay() {
+    let folder = std::env::temp_dir().join(format!("published-rows-{}", std::process::id()));
+    fs::create_dir_all(&folder).unwrap();
+    output(Command::new("python3").arg(root().join("tests/published_rows.py")).arg(&folder));
+    for crate_folder in ["crates/published_rows", "crates/replay"] {
+        for file in ["stdin", "stdout"] {
+            let path = format!("{crate_folder}/{file}");
+            assert!(fs::read(folder.join(&path)).unwrap() == stored(&path), "{path}");
+        }
+    }
+    fs::remove_dir_all(folder).unwrap();
+}
+
+/// What print_pair reads and prints is document 01's example, by the port.
+#[test]
+fn print_pair() {
+    let input = stored("crates/print_pair/stdin");
+    let lines: Vec<&[u8]> = input.split(|&byte| byte == b'\n').collect();
+    assert_eq!(tle::print(lines[0], lines[1]).as_bytes(), stored("crates/print_pair/stdout"));
+}
+
+#[test]
+fn read_pairs() {
+    written("tests/tle_pairs.py", "crates/read_pairs");
+}
+
+#[test]
+fn print_cases() {
+    written("tests/print_cases.py", "crates/print_cases");
 }
 
 #[test]

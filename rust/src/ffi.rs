@@ -6,10 +6,21 @@
 //! header's rules of memory, and the library keeps nothing after the return.
 
 use crate::{Microseconds, State};
+use std::arch::asm;
+
+#[cfg(not(all(target_arch = "x86_64", target_os = "linux")))]
+compile_error!("libsaddlekerf.a is for Linux on x86-64");
 
 /// Elements of a satellite's memory.
 pub const NUMBERS: usize = 83;
 pub const MARKS: usize = 4;
+
+/// Numbers of a record.
+pub const FIELDS: usize = 22;
+
+/// The version of this package, as the header and the archive tell theirs.
+#[cfg(test)]
+pub const VERSION: u64 = 200;
 
 /// f64s of one state.
 const STATE: usize = 6;
@@ -22,6 +33,10 @@ const _: () = assert!(align_of::<Microseconds>() == align_of::<i64>());
 
 mod c {
     extern "C" {
+        pub fn saddlekerf_version() -> u64;
+
+        pub fn saddlekerf_abi_1() -> u64;
+
         pub fn saddlekerf_read(
             line1: *const u8,
             line1_length: usize,
@@ -44,6 +59,23 @@ mod c {
             line2: *const u8,
             line2_length: usize,
             instant: *mut u64,
+        ) -> u64;
+
+        pub fn saddlekerf_record(
+            line1: *const u8,
+            line1_length: usize,
+            line2: *const u8,
+            line2_length: usize,
+            fields: *mut i64,
+            fields_length: usize,
+        ) -> u64;
+
+        pub fn saddlekerf_write(
+            fields: *const i64,
+            fields_length: usize,
+            line: u32,
+            out: *mut u8,
+            out_length: usize,
         ) -> u64;
 
         pub fn saddlekerf_open(
@@ -84,6 +116,29 @@ mod c {
     }
 }
 
+/// An archive whose functions, answers or layouts of memory differ from those that are called here
+/// does not link: the name of this symbol changes with them.
+#[used]
+static ABI: unsafe extern "C" fn() -> u64 = c::saddlekerf_abi_1;
+
+pub fn version() -> u64 {
+    // SAFETY: it takes nothing and touches nothing.
+    unsafe { c::saddlekerf_version() }
+}
+
+/// The bits of MXCSR that change results or trap: denormals-are-zero (6), the six masks (7-12),
+/// rounding (13-14), flush-to-zero (15); and what they are where a program starts.
+pub const MXCSR_CONTROL: u32 = 0xffc0;
+pub const MXCSR_DEFAULT: u32 = 0x1f80;
+
+/// The control and status word of the processor's f64 arithmetic.
+pub fn mxcsr() -> u32 {
+    let mut word = 0u32;
+    // SAFETY: stmxcsr writes the four bytes of `word` and nothing else.
+    unsafe { asm!("stmxcsr [{}]", in(reg) &raw mut word, options(nostack, preserves_flags)) };
+    word
+}
+
 pub fn read(line1: &[u8], line2: &[u8]) -> u64 {
     // SAFETY: both lines are slices, lent for reading.
     unsafe { c::saddlekerf_read(line1.as_ptr(), line1.len(), line2.as_ptr(), line2.len()) }
@@ -106,6 +161,25 @@ pub fn print(line1: &[u8], line2: &[u8], out: &mut [u8]) -> u64 {
 pub fn epoch(line1: &[u8], line2: &[u8], instant: &mut u64) -> u64 {
     // SAFETY: both lines are slices; `instant` is a mutable reference to one u64.
     unsafe { c::saddlekerf_epoch(line1.as_ptr(), line1.len(), line2.as_ptr(), line2.len(), instant) }
+}
+
+pub fn record(line1: &[u8], line2: &[u8], fields: &mut [i64]) -> u64 {
+    // SAFETY: all three are slices; `fields` is mutable, so that it overlaps neither line.
+    unsafe {
+        c::saddlekerf_record(
+            line1.as_ptr(),
+            line1.len(),
+            line2.as_ptr(),
+            line2.len(),
+            fields.as_mut_ptr(),
+            fields.len(),
+        )
+    }
+}
+
+pub fn write(fields: &[i64], line: u32, out: &mut [u8]) -> u64 {
+    // SAFETY: both are slices; `out` is mutable, so that it does not overlap `fields`.
+    unsafe { c::saddlekerf_write(fields.as_ptr(), fields.len(), line, out.as_mut_ptr(), out.len()) }
 }
 
 pub fn open(line1: &[u8], line2: &[u8], numbers: &mut [f64], marks: &mut [u32]) -> u64 {
@@ -172,7 +246,7 @@ pub fn request_list(
 #[cfg(test)]
 mod tests {
     use super::*;
-    use crate::{Satellite, PRINT_ROOM};
+    use crate::{Record, Satellite, PRINT_ROOM};
 
     /// The numbers written here are the header's.
     #[test]
@@ -189,5 +263,19 @@ mod tests {
         assert_eq!(defined("LIST_LIMIT"), Satellite::LIST_LIMIT as i64);
         assert_eq!(defined("PRINT_ROOM"), PRINT_ROOM as i64);
         assert_eq!(defined("TIME_LIMIT"), Microseconds::LIMIT.0);
+        assert_eq!(defined("LINE"), Record::LINE as i64);
+        assert_eq!(defined("FIELDS"), FIELDS as i64);
+        assert_eq!(defined("VERSION"), VERSION as i64);
+    }
+
+    /// Header, archive and this package tell one version, and one number of the boundary.
+    #[test]
+    fn one_version() {
+        assert_eq!(version(), VERSION);
+        let words: Vec<u64> =
+            env!("CARGO_PKG_VERSION").split('.').map(|word| word.parse().unwrap()).collect();
+        assert_eq!(10_000 * words[0] + 100 * words[1] + words[2], VERSION);
+        // SAFETY: it takes nothing and touches nothing.
+        assert_eq!(unsafe { ABI() }, 1);
     }
 }

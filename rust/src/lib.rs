@@ -28,26 +28,47 @@
 //! let times = [Microseconds::from_minutes(0), Microseconds(i64::MAX)];
 //! let mut rooms =
 //!     Rooms { refusals: &mut [0; 2], states: &mut [State::default(); 2], rounds: &mut [0; 2] };
-//! satellite.list(&times, &mut rooms)?;
-//! assert!(rooms.row(0).is_ok());
-//! assert_eq!(rooms.row(1), Err(Refusal::Time));
+//! let rows = satellite.list(&times, &mut rooms)?;
+//! assert!(rows.row(0).is_ok());
+//! assert_eq!(rows.row(1), Err(Refusal::Time));
 //! # Ok(())
 //! # }
 //! ```
 //!
 //! Lines are any bytes at all, without a line end. They get an answer or exactly one [`Refusal`],
 //! with the line, the first column that breaks the layout, or the field, where it has one.
+//!
+//! # The floating-point environment
+//!
+//! The proofs speak of f64 rounded to nearest, ties to even, with subnormal numbers and without
+//! traps: the state in which a program starts, and which threads take over from their creator. Where
+//! it was changed (the rounding mode, flush-to-zero, denormals-are-zero) other bits come out, and
+//! where a trap is unmasked, a lawful line can end the process: lines that divide 0 by 0 on the way
+//! to refusal 8 are lawful. [`environment_is_default`] tells, in a nanosecond or two.
+//!
+//! # Memory
+//!
+//! All NaNs are one value in the proofs: "stays" of an f64 in lent memory means the same number or
+//! again a NaN. That a NaN keeps its own bits is tested, not proved.
+//!
+//! # Time and stack
+//!
+//! A request takes at most 7,304 integrator strides (1.5 ms or so) and a list at most 7,479,296: 1,024
+//! times ten years from the epoch, each on the other side than the one before. Without resonance there
+//! are none. The archive needs at most 8,192 bytes of stack.
 
 #![deny(unsafe_code, missing_debug_implementations)]
 
 #[allow(unsafe_code)]
 mod ffi;
+mod record;
 mod refusal;
 mod satellite;
 mod time;
 
+pub use record::{Exponential, Record};
 pub use refusal::{Field, Line, Refusal};
-pub use satellite::{Answer, Rooms, Row, Satellite, State};
+pub use satellite::{Answer, Rooms, Row, Rows, Satellite, State};
 pub use time::{Instant, Microseconds, Strides};
 
 use refusal::Answer as Packed;
@@ -57,15 +78,14 @@ pub const PRINT_ROOM: usize = 900;
 
 /// Reads a pair: accepted, or a refusal 1 to 6.
 pub fn read(line1: &[u8], line2: &[u8]) -> Result<(), Refusal> {
-    Packed(ffi::read(line1, line2)).refusal()
+    Packed(ffi::read(line1, line2)).plain()
 }
 
 /// Prints the fields of a pair, one a line, at the front of `out`, and returns the part written; or
 /// refusal 17. A pair that is not read prints `refused` and its number.
 pub fn print<'a>(line1: &[u8], line2: &[u8], out: &'a mut [u8]) -> Result<&'a mut [u8], Refusal> {
-    let answer = Packed(ffi::print(line1, line2, out));
-    answer.refusal()?;
-    Ok(&mut out[..answer.count() as usize])
+    let written = Packed(ffi::print(line1, line2, out)).counted()?;
+    Ok(&mut out[..written as usize])
 }
 
 /// What [`print`] prints, as a new string.
@@ -82,6 +102,23 @@ pub fn printed(line1: &[u8], line2: &[u8]) -> String {
 /// The epoch of a pair; or a refusal 1 to 6.
 pub fn epoch(line1: &[u8], line2: &[u8]) -> Result<Instant, Refusal> {
     let mut instant = 0;
-    Packed(ffi::epoch(line1, line2, &mut instant)).refusal()?;
+    Packed(ffi::epoch(line1, line2, &mut instant)).plain()?;
     Ok(Instant(instant))
+}
+
+/// The version of the archive: 10000 × major + 100 × minor + patch. An archive whose functions, answers
+/// or layouts of memory are not those of this package does not link with it.
+pub fn version() -> u64 {
+    ffi::version()
+}
+
+/// Whether this thread's floating-point environment is the one that the proofs speak of: rounding to
+/// nearest, subnormal numbers kept, every trap masked. Flags that earlier operations raised do not
+/// count.
+///
+/// ```
+/// assert!(saddlekerf::environment_is_default());
+/// ```
+pub fn environment_is_default() -> bool {
+    ffi::mxcsr() & ffi::MXCSR_CONTROL == ffi::MXCSR_DEFAULT
 }

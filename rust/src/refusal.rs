@@ -62,7 +62,7 @@ pub enum Refusal {
     Radius,
     /// 15: a number of the state is not finite.
     StateNotFinite,
-    /// 16: a record outside layout or ranges. Never given for lines: their record is always lawful.
+    /// 16: a record to be written is outside layout or ranges.
     Record,
     /// 17: lent room too short.
     Room,
@@ -134,7 +134,8 @@ impl fmt::Display for Refusal {
 
 impl std::error::Error for Refusal {}
 
-/// An answer of the library, as include/saddlekerf.h lays it out.
+/// An answer of the library, as include/saddlekerf.h lays it out. What it does not name for a
+/// function and a refusal is 0; another answer comes only from an archive of another header.
 #[derive(Clone, Copy)]
 pub(crate) struct Answer(pub u64);
 
@@ -147,20 +148,42 @@ impl Answer {
         (self.0 >> 16) as u16
     }
 
-    /// Rounds of Kepler's equation, where a single request is answered.
-    pub fn rounds(self) -> u8 {
-        self.detail()
-    }
-
-    /// Strides, or bytes written.
-    pub fn count(self) -> u32 {
+    fn count(self) -> u32 {
         (self.0 >> 32) as u32
     }
 
-    pub fn refusal(self) -> Result<(), Refusal> {
-        match self.0 as u8 {
-            0 => Ok(()),
-            _ => Err(self.decoded().unwrap_or_else(|| self.foreign())),
+    /// The answer of a function that tells a refusal with its values, or nothing.
+    pub fn plain(self) -> Result<(), Refusal> {
+        match self.counted() {
+            Ok(0) => Ok(()),
+            Ok(_) => self.foreign(),
+            Err(refusal) => Err(refusal),
+        }
+    }
+
+    /// The answer of a function that tells a count: bytes written, or a list's strides.
+    pub fn counted(self) -> Result<u32, Refusal> {
+        match (self.0 as u32, self.count()) {
+            (0, count) => Ok(count),
+            (_, 0) => Err(self.refusal()),
+            _ => self.foreign(),
+        }
+    }
+
+    /// The answer to one time: Kepler rounds or a refusal, and the strides.
+    pub fn asked(self) -> (Result<u8, Refusal>, u32) {
+        let row = match (self.0 as u8, self.place()) {
+            (0, 0) => Ok(self.detail()),
+            (0, _) => self.foreign(),
+            _ => Err(self.refusal()),
+        };
+        (row, self.count())
+    }
+
+    fn refusal(self) -> Refusal {
+        match self.decoded() {
+            Some(refusal) if refusal.packed() == self.0 as u32 => refusal,
+            _ => self.foreign(),
         }
     }
 
@@ -193,10 +216,32 @@ impl Answer {
         })
     }
 
-    /// Only an archive of another header answers so.
     #[cold]
     fn foreign(self) -> ! {
         panic!("libsaddlekerf.a answered {:#018x}, which saddlekerf.h does not have", self.0)
+    }
+}
+
+impl Refusal {
+    /// The low 32 bits of its answer.
+    fn packed(self) -> u32 {
+        let (detail, place) = match self {
+            Refusal::Length { line } | Refusal::Start { line } | Refusal::Checksum { line } => {
+                (line as u32, 0)
+            }
+            Refusal::Column { line, column } => (line as u32, column as u32),
+            Refusal::Range { field } => (0, field as u32),
+            _ => (0, 0),
+        };
+        self.number() as u32 | detail << 8 | place << 16
+    }
+
+    /// The refusal of a row: 9 to 15, which come back with nothing.
+    pub(crate) fn of_row(number: u8) -> Option<Refusal> {
+        match number {
+            9..=15 => Answer(number as u64).decoded(),
+            _ => None,
+        }
     }
 }
 
@@ -216,26 +261,75 @@ fn field(number: u16) -> Option<Field> {
 mod tests {
     use super::*;
 
+    /// Every refusal: its answer by the header's layout, its number, and what it says. Written out,
+    /// so that no two can stand in each other's place.
     #[test]
-    fn every_number_is_its_own_refusal() {
-        for number in 1..=18u8 {
-            let answer = Answer(number as u64 | 1 << 8 | 2 << 16);
-            assert_eq!(answer.refusal().unwrap_err().number(), number);
+    fn every_refusal_has_its_own_answer_number_and_text() {
+        use Field::*;
+        use Line::*;
+        let table = [
+            (0x0000_0101, 1, Refusal::Length { line: One }, "line 1 is not 69 bytes"),
+            (0x0000_0201, 1, Refusal::Length { line: Two }, "line 2 is not 69 bytes"),
+            (0x0000_0102, 2, Refusal::Start { line: One }, "column 1 of line 1 is not its number"),
+            (0x0000_0202, 2, Refusal::Start { line: Two }, "column 1 of line 2 is not its number"),
+            (0x0045_0103, 3, Refusal::Column { line: One, column: 69 }, "line 1, column 69"),
+            (0x000c_0203, 3, Refusal::Column { line: Two, column: 12 }, "line 2, column 12"),
+            (0x0000_0104, 4, Refusal::Checksum { line: One }, "checksum of line 1"),
+            (0x0000_0204, 4, Refusal::Checksum { line: Two }, "checksum of line 2"),
+            (0x0000_0005, 5, Refusal::Catalogue, "the catalogue numbers differ"),
+            (0x0001_0006, 6, Refusal::Range { field: Day }, "day out of range"),
+            (0x0002_0006, 6, Refusal::Range { field: Inclination }, "inclination out of range"),
+            (0x0003_0006, 6, Refusal::Range { field: Node }, "node out of range"),
+            (0x0004_0006, 6, Refusal::Range { field: Perigee }, "argument of perigee out of range"),
+            (0x0005_0006, 6, Refusal::Range { field: Anomaly }, "mean anomaly out of range"),
+            (0x0006_0006, 6, Refusal::Range { field: Motion }, "mean motion out of range"),
+            (7, 7, Refusal::PerigeeBelowSurface, "perigee at epoch below one Earth radius"),
+            (8, 8, Refusal::RecordNotFinite, "a number of the satellite is not finite"),
+            (9, 9, Refusal::Time, "a time beyond 3,652 days"),
+            (10, 10, Refusal::MeanMotion, "mean motion at most 0"),
+            (11, 11, Refusal::MeanEccentricity, "mean eccentricity or axis out of bounds"),
+            (12, 12, Refusal::Eccentricity, "perturbed eccentricity below 0 or above 1"),
+            (13, 13, Refusal::SemiLatusRectum, "semi-latus rectum below 0"),
+            (14, 14, Refusal::Radius, "radius below one Earth radius"),
+            (15, 15, Refusal::StateNotFinite, "a number of the state is not finite"),
+            (16, 16, Refusal::Record, "a record outside layout or ranges"),
+            (17, 17, Refusal::Room, "lent room too short"),
+            (18, 18, Refusal::List, "a list of more than 1,024 times"),
+        ];
+        for (answer, number, refusal, text) in table {
+            assert_eq!(Answer(answer).plain(), Err(refusal));
+            assert_eq!(Answer(answer).counted(), Err(refusal));
+            assert_eq!(Answer(answer | 7 << 32).asked(), (Err(refusal), 7));
+            assert_eq!(refusal.number(), number);
+            assert_eq!(refusal.to_string(), format!("refusal {number}: {text}"));
+            let of_row = (9..=15).contains(&number).then_some(refusal);
+            assert_eq!(Refusal::of_row(number), of_row);
         }
-        assert_eq!(Answer(0x0000_0002_0000_0400).refusal(), Ok(()));
     }
 
     #[test]
     fn values_stand_where_the_header_puts_them() {
-        assert_eq!(Answer(0x000c_0203).refusal(), Err(Refusal::Column { line: Line::Two, column: 12 }));
-        assert_eq!(Answer(0x0006_0006).refusal(), Err(Refusal::Range { field: Field::Motion }));
-        assert_eq!(Answer(0x0000_0007_0000_0400).rounds(), 4);
-        assert_eq!(Answer(0x0000_0007_0000_0400).count(), 7);
+        assert_eq!(Answer(0).plain(), Ok(()));
+        assert_eq!(Answer(0x0000_0007_0000_0400).asked(), (Ok(4), 7));
+        assert_eq!(Answer(0x0000_0007_0000_0000).counted(), Ok(7));
     }
 
+    /// Numbers, lines, columns, fields and values that belong to no answer of the header.
     #[test]
-    #[should_panic(expected = "which saddlekerf.h does not have")]
-    fn another_number_is_no_refusal() {
-        let _ = Answer(19).refusal();
+    fn another_answer_is_no_refusal() {
+        let told = |ask: fn(Answer) -> bool, answer| std::panic::catch_unwind(|| ask(Answer(answer))).is_ok();
+        let plain = |answer: Answer| answer.plain().is_ok();
+        for answer in [19, 1, 0x0301, 0x0001_0101, 0x0100_0103, 0x0006, 0x0007_0006, 0x0107, 0x0001_0009] {
+            assert!(!told(plain, answer), "{answer:#x}");
+        }
+        for answer in [1 << 32, 4 << 8, 1 << 16, 9 | 1 << 32] {
+            assert!(!told(plain, answer), "{answer:#x}");
+        }
+        for answer in [4 << 8, 17 | 1 << 32] {
+            assert!(!told(|answer| answer.counted().is_ok(), answer), "{answer:#x}");
+        }
+        for answer in [1 << 16, 14 | 4 << 8] {
+            assert!(!told(|answer| answer.asked().0.is_ok(), answer), "{answer:#x}");
+        }
     }
 }

@@ -34,7 +34,8 @@ pub struct Answer {
 /// Memory that a caller lends for the rows of a list: an element for each row in each of the three.
 ///
 /// Row i of a list is `refusals[i]` (0 when answered), `states[i]` and `rounds[i]`; a refused row has
-/// a zero state and no rounds. [`row`](Rooms::row) puts them together.
+/// a zero state and no rounds. What lies past a list's last row, and all of it where the list is
+/// refused, stays as it was, but for the bits of a NaN (see the [crate's notes](crate#memory)).
 #[derive(Debug)]
 pub struct Rooms<'a> {
     pub refusals: &'a mut [u8],
@@ -42,16 +43,52 @@ pub struct Rooms<'a> {
     pub rounds: &'a mut [u8],
 }
 
-impl Rooms<'_> {
-    /// Row `index` of the list last asked.
+/// The rows of a list that was answered, in the rooms lent for them. A list that is refused has none.
+#[derive(Clone, Copy, Debug)]
+pub struct Rows<'a> {
+    refusals: &'a [u8],
+    states: &'a [State],
+    rounds: &'a [u8],
+    strides: Strides,
+}
+
+impl Rows<'_> {
+    /// One for each time of the list.
+    pub fn len(&self) -> usize {
+        self.refusals.len()
+    }
+
+    pub fn is_empty(&self) -> bool {
+        self.refusals.is_empty()
+    }
+
+    /// Strides that the resonance integrator took for all of them together.
+    pub fn strides(&self) -> Strides {
+        self.strides
+    }
+
+    /// The row of the list's time `index`; or its refusal, 9 to 15.
     ///
     /// # Panics
     ///
-    /// Where a room has no such element, or `refusals` holds what no list writes.
+    /// Where the list has no such time.
     pub fn row(&self, index: usize) -> Result<Row, Refusal> {
-        Packed(self.refusals[index] as u64).refusal()?;
-        Ok(Row { state: self.states[index], rounds: self.rounds[index] })
+        match self.refusals[index] {
+            0 => Ok(Row { state: self.states[index], rounds: self.rounds[index] }),
+            number => Err(Refusal::of_row(number).unwrap_or_else(|| foreign(number))),
+        }
     }
+
+    /// All rows, in the list's order.
+    pub fn iter(&self) -> impl ExactSizeIterator<Item = Result<Row, Refusal>> + '_ {
+        (0..self.len()).map(|index| self.row(index))
+    }
+}
+
+/// Only an archive of another header writes such a row.
+#[cold]
+fn foreign(number: u8) -> ! {
+    panic!("libsaddlekerf.a refused a row with {number}, which saddlekerf.h does not have")
 }
 
 /// A satellite opened from two lines.
@@ -66,6 +103,10 @@ pub struct Satellite {
 }
 
 impl Satellite {
+    /// Elements of a satellite's memory.
+    pub const NUMBERS: usize = ffi::NUMBERS;
+    pub const MARKS: usize = ffi::MARKS;
+
     /// The most times of one list.
     pub const LIST_LIMIT: usize = 1024;
 
@@ -87,7 +128,7 @@ impl Satellite {
 
     /// Opens other lines in this satellite's memory. Where they are refused it stays as it was.
     pub fn reopen(&mut self, line1: &[u8], line2: &[u8]) -> Result<(), Refusal> {
-        Packed(ffi::open(line1, line2, &mut self.numbers, &mut self.marks)).refusal()
+        Packed(ffi::open(line1, line2, &mut self.numbers, &mut self.marks)).plain()
     }
 
     /// Position and velocity at a time since the epoch; or a refusal 9 to 15.
@@ -98,22 +139,48 @@ impl Satellite {
     /// Asks for one time: its row and the strides taken.
     pub fn request(&mut self, time: Microseconds) -> Answer {
         let mut state = State::default();
-        let answer = Packed(ffi::request(&mut self.numbers, &mut self.marks, time, &mut state));
-        let row = answer.refusal().map(|()| Row { state, rounds: answer.rounds() });
-        Answer { row, strides: Strides(answer.count()) }
+        let (rounds, strides) = self.request_into(time, &mut state);
+        Answer { row: rounds.map(|rounds| Row { state, rounds }), strides }
     }
 
-    /// Asks for a list of times, in order: a row for each to the front of the rooms, and the strides
-    /// of all together. Rows are refused one by one, and the list goes on.
+    /// Asks for one time, with memory lent for its state: the Kepler rounds or a refusal, and the
+    /// strides. A refused time leaves the memory as it was, but for the bits of a NaN.
+    pub fn request_into(&mut self, time: Microseconds, state: &mut State) -> (Result<u8, Refusal>, Strides) {
+        let answer = Packed(ffi::request(&mut self.numbers, &mut self.marks, time, state));
+        let (rounds, strides) = answer.asked();
+        (rounds, Strides(strides))
+    }
+
+    /// Asks for a list of times, in order: a row for each to the front of the rooms. Rows are refused
+    /// one by one, and the list goes on.
     ///
     /// The list as a whole is refused with 18 where it has more than [`LIST_LIMIT`](Self::LIST_LIMIT)
     /// times and with 17 where a room is too short; then nothing is written and the satellite stays
     /// as it was.
-    pub fn list(&mut self, times: &[Microseconds], rooms: &mut Rooms<'_>) -> Result<Strides, Refusal> {
+    pub fn list<'r>(
+        &mut self,
+        times: &[Microseconds],
+        rooms: &'r mut Rooms<'_>,
+    ) -> Result<Rows<'r>, Refusal> {
         let Rooms { refusals, states, rounds } = rooms;
         let answer =
             Packed(ffi::request_list(&mut self.numbers, &mut self.marks, times, refusals, states, rounds));
-        answer.refusal().map(|()| Strides(answer.count()))
+        let strides = Strides(answer.counted()?);
+        let count = times.len();
+        Ok(Rows { refusals: &refusals[..count], states: &states[..count], rounds: &rounds[..count], strides })
+    }
+
+    /// The satellite's memory: a copy of it is the same satellite, wherever it is kept. Requests
+    /// change the saved place alone, which is the first two numbers (the integrated pair) and the
+    /// first two marks (side of the epoch, 0 ahead; stride number).
+    pub fn memory(&self) -> (&[f64; ffi::NUMBERS], &[u32; ffi::MARKS]) {
+        (&self.numbers, &self.marks)
+    }
+
+    /// A satellite of any memory. Only what [`open`](Self::open) wrote and requests changed is a
+    /// satellite of lines; any other is asked by the same rules.
+    pub fn from_memory(numbers: [f64; ffi::NUMBERS], marks: [u32; ffi::MARKS]) -> Satellite {
+        Satellite { numbers, marks }
     }
 }
 
@@ -142,7 +209,8 @@ mod tests {
         let before = State { position: [1.0; 3], velocity: [1.0; 3] };
         let (mut refusals, mut states, mut rounds) = ([7; 3], [before; 3], [7; 3]);
         let mut rooms = Rooms { refusals: &mut refusals, states: &mut states, rounds: &mut rounds };
-        satellite.list(&times, &mut rooms).unwrap();
+        let rows = satellite.list(&times, &mut rooms).unwrap();
+        assert!(rows.iter().all(|row| row == Err(Refusal::MeanMotion)));
         assert_eq!((refusals, states, rounds), ([10; 3], [State::default(); 3], [0; 3]));
     }
 

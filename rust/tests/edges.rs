@@ -1,7 +1,7 @@
 //! Document 01's example, its cases at the edges, and what lent memory holds afterwards.
 
 use saddlekerf::{epoch, print, printed, read};
-use saddlekerf::{Field, Instant, Line, Microseconds, Refusal, Rooms, Row, Satellite, State, Strides};
+use saddlekerf::{Field, Instant, Line, Microseconds, Refusal, Rooms, Satellite, State, Strides};
 
 const LINE1: &[u8] = b"1 00005U 58002B   00179.78495062  .00000023  00000-0  28098-4 0  4753";
 const LINE2: &[u8] = b"2 00005  34.2682 348.7242 1859667 331.7664  19.3264 10.82419157413667";
@@ -183,7 +183,21 @@ fn the_saved_place_changes_no_bit() {
     }
 }
 
-const MARK: State = State { position: [7.0; 3], velocity: [8.0; 3] };
+/// NaNs with bits of their own: what stays is held to them bit for bit.
+const MARK: State = State {
+    position: [
+        f64::from_bits(0x7ff8_0000_dead_beef),
+        f64::from_bits(0xfff8_1234_5678_9abc),
+        f64::from_bits(0x7fff_ffff_ffff_ffff),
+    ],
+    velocity: [f64::from_bits(0x7ff8_0000_0000_0001), 8.0, -0.0],
+};
+
+/// The satellite's memory, bit for bit.
+fn memory(satellite: &Satellite) -> (Vec<u64>, Vec<u32>) {
+    let (numbers, marks) = satellite.memory();
+    (numbers.iter().map(|x| x.to_bits()).collect(), marks.to_vec())
+}
 
 /// Rooms of their own lengths, marked throughout.
 struct Marked {
@@ -203,9 +217,14 @@ impl Marked {
 
     fn untouched_from(&self, row: usize) -> bool {
         self.refusals[row..].iter().all(|&refusal| refusal == 77)
-            && self.states[row..].iter().all(|state| *state == MARK)
+            && self.states[row..].iter().all(|state| bits(state) == bits(&MARK))
             && self.rounds[row..].iter().all(|&rounds| rounds == 99)
     }
+}
+
+/// A list's strides, or its refusal.
+fn listed(satellite: &mut Satellite, times: &[Microseconds], room: &mut Marked) -> Result<Strides, Refusal> {
+    satellite.list(times, &mut room.lend()).map(|rows| rows.strides())
 }
 
 #[test]
@@ -215,18 +234,19 @@ fn lists() {
         times[2] = Microseconds(LIMIT + 1);
         let mut room = Marked::new(9, 8, 7);
         let mut rooms = room.lend();
-        assert_eq!(fresh.clone().list(&times, &mut rooms), Ok(Strides(1 + 1 + 1)));
-        for (index, &time) in times.iter().enumerate() {
+        let rows = fresh.clone().list(&times, &mut rooms).unwrap();
+        assert_eq!((rows.len(), rows.strides()), (6, Strides(1 + 1 + 1)));
+        for (row, &time) in rows.iter().zip(&times) {
             let alone = fresh.clone().request(time).row;
-            match (rooms.row(index), alone) {
+            match (row, alone) {
                 (Ok(one), Ok(other)) => {
                     assert_eq!((bits(&one.state), one.rounds), (bits(&other.state), other.rounds))
                 }
                 (one, other) => assert_eq!(one, other),
             }
         }
-        assert_eq!(rooms.row(2), Err(Refusal::Time));
-        assert_eq!((bits(&rooms.states[2]), rooms.rounds[2]), ([0; 6], 0));
+        assert_eq!(rows.row(2), Err(Refusal::Time));
+        assert_eq!((bits(&room.states[2]), room.rounds[2]), ([0; 6], 0));
         assert!(room.untouched_from(6));
     }
 }
@@ -235,11 +255,11 @@ fn lists() {
 fn lists_without_strides() {
     for mut satellite in open_resonant() {
         let mut room = Marked::new(2, 2, 2);
-        assert_eq!(satellite.list(&[], &mut room.lend()), Ok(Strides(0)));
+        assert_eq!(listed(&mut satellite, &[], &mut room), Ok(Strides(0)));
         assert!(room.untouched_from(0));
-        assert_eq!(satellite.list(&[], &mut Marked::new(0, 0, 0).lend()), Ok(Strides(0)));
+        assert_eq!(listed(&mut satellite, &[], &mut Marked::new(0, 0, 0)), Ok(Strides(0)));
         let far = [Microseconds(LIMIT + 1), Microseconds(i64::MIN)];
-        assert_eq!(satellite.list(&far, &mut room.lend()), Ok(Strides(0)));
+        assert_eq!(listed(&mut satellite, &far, &mut room), Ok(Strides(0)));
         assert_eq!(room.refusals, [9, 9]);
     }
 }
@@ -249,21 +269,109 @@ fn lists_refused_whole() {
     for fresh in open_resonant() {
         let mut satellite = fresh.clone();
         satellite.at(Microseconds(5 * STRIDE)).unwrap();
+        let before = memory(&satellite);
         let long = vec![Microseconds(0); Satellite::LIST_LIMIT + 1];
         let mut room = Marked::new(0, 2000, 2000);
-        assert_eq!(satellite.list(&long, &mut room.lend()), Err(Refusal::List));
+        assert_eq!(listed(&mut satellite, &long, &mut room), Err(Refusal::List));
         assert!(room.untouched_from(0));
         for (refusals, states, rounds) in [(2, 3, 3), (3, 2, 3), (3, 3, 2), (0, 0, 0)] {
             let mut room = Marked::new(refusals, states, rounds);
-            assert_eq!(satellite.list(&[Microseconds(0); 3], &mut room.lend()), Err(Refusal::Room));
+            assert_eq!(listed(&mut satellite, &[Microseconds(0); 3], &mut room), Err(Refusal::Room));
             assert!(room.untouched_from(0));
         }
         // The satellite is where it was: five strides out.
+        assert_eq!(memory(&satellite), before);
         assert_eq!(satellite.request(Microseconds(6 * STRIDE)).strides, Strides(1));
         let mut room = Marked::new(1024, 1024, 1024);
         let longest = vec![Microseconds(2 * STRIDE); Satellite::LIST_LIMIT];
-        assert_eq!(satellite.list(&longest, &mut room.lend()), Ok(Strides(2)));
+        assert_eq!(listed(&mut satellite, &longest, &mut room), Ok(Strides(2)));
         assert!(room.states.iter().all(|state| bits(state) == bits(&room.states[0])));
+    }
+}
+
+/// A list that is refused has no rows, whatever its rooms hold; one that is answered has none past
+/// its last time.
+#[test]
+fn no_rows_but_the_lists_own() {
+    let mut satellite = Satellite::open(LINE1, LINE2).unwrap();
+    let mut room = Marked::new(3, 3, 3);
+    let mut rooms = room.lend();
+    rooms.refusals.fill(0);
+    assert_eq!(satellite.list(&[Microseconds(0); 4], &mut rooms).unwrap_err(), Refusal::Room);
+    let rows = satellite.list(&[Microseconds(0); 2], &mut rooms).unwrap();
+    assert_eq!((rows.len(), rows.iter().len(), rows.is_empty()), (2, 2, false));
+    assert!(std::panic::catch_unwind(|| rows.row(2)).is_err());
+}
+
+/// Lines for each refusal of opening, 1 to 8.
+fn unopened() -> Vec<(u8, Vec<u8>, Vec<u8>)> {
+    let (line1, line2) = (LINE1.to_vec(), LINE2.to_vec());
+    vec![
+        (1, line1[..68].to_vec(), line2.clone()),
+        (2, line1.clone(), line1.clone()),
+        (3, line1.clone(), with(LINE2, 12, b",")),
+        (4, line1.clone(), [&LINE2[..68], b"8"].concat()),
+        (5, line1.clone(), RESONANT[0][1].to_vec()),
+        (6, line1.clone(), with(LINE2, 9, b"180.0001")),
+        (7, line1.clone(), with(LINE2, 27, b"9859667")),
+        (8, line1, with(LINE2, 9, b"180.0000")),
+    ]
+}
+
+/// Refused lines leave the satellite as it was, every bit of it, the saved place too.
+#[test]
+fn reopening_refused() {
+    for mut satellite in open_resonant().chain(Satellite::open(LINE1, LINE2)) {
+        satellite.at(Microseconds(5 * STRIDE)).unwrap();
+        let (before, fresh) = (memory(&satellite), satellite.clone());
+        for (number, line1, line2) in unopened() {
+            assert_eq!(satellite.reopen(&line1, &line2).unwrap_err().number(), number);
+            assert_eq!(memory(&satellite), before, "after refusal {number}");
+        }
+        for minutes in [0, -720, 10_000] {
+            let time = Microseconds::from_minutes(minutes);
+            let (one, other) = (satellite.request(time), fresh.clone().request(time));
+            assert_eq!(bits(&one.row.unwrap().state), bits(&other.row.unwrap().state));
+        }
+    }
+}
+
+/// Memory of NaNs with bits of their own, and of anything else, stays where nothing is opened.
+#[test]
+fn reopening_refused_in_any_memory() {
+    let numbers = std::array::from_fn(|i| f64::from_bits(0x7ff8_0000_0000_0000 | (i as u64) << 32 | 69));
+    let mut satellite = Satellite::from_memory(numbers, [7, u32::MAX, 9, 5]);
+    let before = memory(&satellite);
+    for (number, line1, line2) in unopened() {
+        assert_eq!(satellite.reopen(&line1, &line2).unwrap_err().number(), number);
+        assert_eq!(memory(&satellite), before, "after refusal {number}");
+    }
+    let mut state = MARK;
+    assert_eq!(satellite.request_into(Microseconds(LIMIT + 1), &mut state), (Err(Refusal::Time), Strides(0)));
+    assert_eq!((memory(&satellite), bits(&state)), (before, bits(&MARK)));
+}
+
+/// A request changes the saved place alone; a refused one leaves the state's memory as it was.
+#[test]
+fn what_a_request_writes() {
+    for mut satellite in open_resonant() {
+        let before = memory(&satellite);
+        let mut state = MARK;
+        assert!(satellite.request_into(Microseconds(-3 * STRIDE), &mut state).0.is_ok());
+        assert!(bits(&state).iter().zip(bits(&MARK)).all(|(one, other)| *one != other));
+        let after = memory(&satellite);
+        assert_eq!((&after.0[2..], &after.1[2..]), (&before.0[2..], &before.1[2..]));
+        assert_eq!(after.1[..2], [1, 3]);
+        // A pair that no stride gives: refusal 15, and the place of the time is saved all the same.
+        let (numbers, marks) = satellite.memory();
+        let (mut numbers, marks) = (*numbers, *marks);
+        numbers[0] = f64::NAN;
+        let mut spoiled = Satellite::from_memory(numbers, marks);
+        let mut state = MARK;
+        let answer = spoiled.request_into(Microseconds(-4 * STRIDE), &mut state);
+        assert_eq!(answer, (Err(Refusal::StateNotFinite), Strides(1)));
+        assert_eq!(bits(&state), bits(&MARK));
+        assert_eq!(memory(&spoiled).1[..2], [1, 4]);
     }
 }
 
@@ -271,13 +379,11 @@ fn lists_refused_whole() {
 fn reopening() {
     let [line1, line2] = RESONANT[0];
     let mut satellite = Satellite::open(LINE1, LINE2).unwrap();
-    assert_eq!(satellite.reopen(line1, LINE2), Err(Refusal::Catalogue));
-    let Row { rounds, .. } = satellite.request(Microseconds(0)).row.unwrap();
-    assert_eq!(rounds, 4);
     assert_eq!(satellite.reopen(line1, line2), Ok(()));
-    let one = satellite.at(Microseconds(0)).unwrap();
-    let other = Satellite::open(line1, line2).unwrap().at(Microseconds(0)).unwrap();
-    assert_eq!(bits(&one), bits(&other));
+    assert_eq!(memory(&satellite), memory(&Satellite::open(line1, line2).unwrap()));
+    // Nothing of a deep-space satellite is left in one near Earth.
+    assert_eq!(satellite.reopen(LINE1, LINE2), Ok(()));
+    assert_eq!(memory(&satellite), memory(&Satellite::open(LINE1, LINE2).unwrap()));
 }
 
 #[test]

@@ -5,7 +5,8 @@ use mathlib.Core.Bool.{true}
 use mathlib.Core.List.{List, [], _∷_, _++_, map}
 use lib.ListN.{take}
 use Rattle.instant.specs.Calendar.{dayMicros, epochMicros}
-use Rattle.tle.specs.Layout.{bytes}
+use Rattle.text.specs.Output.{bytes}
+use Rattle.tle.specs.Examples.{line1, line2}
 use Rattle.tle.specs.Number.{sum}
 use Rattle.tle.specs.Refusals.{numberOf, valuesOf, Values, line, line-column, field}
 use Rattle.tle.specs.Read.{checksumOf, fieldsOf, readOf}
@@ -62,14 +63,7 @@ unfoldable pub Every : {A : Type 0} → (A → Type 0) → List A → Type 0
 Every P [] = Unit {0}
 Every P (a ∷ l) = P a × Every P l
 
--- 002's example
-abbrev pub line1 : List ℕ
-line1 = bytes "1 00005U 58002B   00179.78495062  .00000023  00000-0  28098-4 0  4753"
-
-abbrev pub line2 : List ℕ
-line2 = bytes "2 00005  34.2682 348.7242 1859667 331.7664  19.3264 10.82419157413667"
-
--- the example with another line 1, or another line 2
+-- 002's example with another line 1, or another line 2
 abbrev pub with1 : List ℕ → Pair
 with1 l = record { line1 = l; line2 = line2 }
 

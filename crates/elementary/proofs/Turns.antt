@@ -3,15 +3,17 @@ use mathlib.Core.Path.{_≡_, refl, sym, ap, _∙_, subst}
 use Prim.Native.Nat.{ℕ, zero, suc, _+_, _-_, _*_, _/_, _%_, _^_, _≤_, _<_, compare}
 use native.Mathlib.Nat.{le-trans, le-of-lt, lt-of-lt-of-le, lt-of-not-le, not-le-of-lt, le-add-right, mul-assoc, mul-comm, mul-right-comm, add-mul, add-comm, mul-pos, mul-le-mul, mul-le-mul-left, mul-le-mul-right, mul-lt-mul-of-pos-right, mul-add-mod-self-right, mod-eq-of-lt, mod-lt, div-add-mod', zero-lt-suc}
 use native.Mathlib.Omega.{arith}
-use mathlib.Core.Bool.{Bool, true, false, not, cond, true≢false}
+use mathlib.Core.Bool.{Bool, true, false, not, cond, true≢false, false≢true}
 use lib.IntN.{ℤ, pos, negsuc}
-use lib.Dec.{T, ltb, lit<}
+use lib.Dec.{T, ltb, lt→ltb, lit<}
+use borrow.Author.Tests.{ltb-false}
 use lib.Pow.{pow-add, pow-pos, pow-mono}
-use lib.Ieee.{Float, nan, inf, fin, Format, prec, emax, low, binary64, up, down, odd, units, size, nearest, round, ofInt, div, rem, neg, le, fits, toBits}
+use lib.Ieee.{Float, nan, inf, fin, Format, prec, emax, low, binary64, up, down, odd, units, size, nearest, round, ofInt, div, rem, neg, le, fits, lt, toBits}
 use lib.Ieee.Fits.{down-pos}
 use lib.Ieee.Exact.{HasValue}
+use lib.Ieee.Order.{le-of-values}
 use lib.Ieee.Scale.{round-same}
-use lib.Ieee.Positive.{positive, between, values-of-le}
+use lib.Ieee.Positive.{positive, first-pos, values-of-le}
 use lib.Ieee.Back.{round-whole}
 use Rattle.elementary.specs.Trig.{turned}
 use Rattle.elementary.proofs.Patterns.{H, rescale, regroup, normal-value, subnormal-value, positive-bits}
@@ -62,38 +64,62 @@ quotient x n r v h =
     let l : n % turn < turn = mod-lt n (zero-lt-suc 7074237752028439) in
     over-units (round binary64 false r 1) r (round-whole binary64 false r (omega arith)) ∙ ap (λ (z : ℕ). round binary64 false z (2 ^ 50)) h ∙ sym (rem-units x n v)
 
--- ---- the digits and the place of an x from two pi to 2 ^ 24
-T-of : {b : Bool} → b ≡ true → T b
-T-of h = subst T (sym h) tt
+-- ---- an x that is not below two pi: a positive number, or an infinity or a NaN
 
+-- two pi itself
+abbrev two-pi : Float
+two-pi = fin false 884279719003555 (negsuc 46)
+
+above : (m : ℕ) (e : ℤ) → ltb (m * up e * 2 ^ 47) (884279719003555 * 1 * down e) ≡ false → T (positive (fin false m e)) × T (le two-pi (fin false m e))
+above m e l =
+    let h : 884279719003555 * 1 * down e ≤ m * up e * 2 ^ 47 = ltb-false (m * up e * 2 ^ 47) (884279719003555 * 1 * down e) l in
+    let p : 0 < 884279719003555 * 1 * down e = mul-pos (zero-lt-suc 884279719003554) (down-pos e) in
+    let q : T (positive (fin false m e)) = lt→ltb 0 m (first-pos m (up e) (first-pos (m * up e) (2 ^ 47) (lt-of-lt-of-le p h))) in
+    (q, le-of-values two-pi (fin false m e) 884279719003555 (2 ^ 47) (m * up e) (down e) (pow-pos 47) (down-pos e) (refl, refl) (refl, refl) h)
+
+pub number-above : (x : Float) → lt x two-pi ≡ false → lt x (inf false) ≡ true → T (positive x) × T (le two-pi x)
+unfolding lt
+number-above nan l h = absurd (false≢true h)
+number-above (inf true) l h = absurd (true≢false l)
+number-above (inf false) l h = absurd (false≢true h)
+number-above (fin true m e) l h =
+    let z : m * up e * 2 ^ 47 + 884279719003555 * 1 * down e ≤ 0 = ltb-false 0 (m * up e * 2 ^ 47 + 884279719003555 * 1 * down e) l in
+    let p : 0 < 884279719003555 * 1 * down e = mul-pos (zero-lt-suc 884279719003554) (down-pos e) in
+    absurd (omega arith)
+number-above (fin false m e) l h = above m e l
+
+pub no-number : (x : Float) → lt x two-pi ≡ false → lt x (inf false) ≡ false → nan ≡ turned x
+unfolding lt turned rem
+no-number nan l h = refl
+no-number (inf s) l h = refl
+no-number (fin s m e) l h = absurd (true≢false h)
+
+-- the same test of the other side
+pub other-side : (x : Float) → lt (fin true 884279719003555 (negsuc 46)) x ≡ false → lt (neg x) two-pi ≡ false
+unfolding lt neg
+other-side nan h = refl
+other-side (inf true) h = refl
+other-side (inf false) h = h
+other-side (fin true m e) h = h
+other-side (fin false m e) h = ap (ltb 0) (add-comm (m * up e * 2 ^ 47) (884279719003555 * 1 * down e)) ∙ h
+
+-- ---- the digits and the place of a number from two pi on
 pub record Turned (x : Float) : Type 0 where
   pub low : 1025 ≤ toBits binary64 x / H
-  pub high : toBits binary64 x / H ≤ 1047
   pub value : HasValue x false ((toBits binary64 x % H + H) * 2 ^ (toBits binary64 x / H - 1025)) (2 ^ 50)
 
-module _ (x : Float) (f : T (fits binary64 x)) (lo : le (fin false 884279719003555 (negsuc 46)) x ≡ true) (hi : le x (fin false 1 (pos 24)) ≡ true) where
-  pub is-positive : T (positive x)
-  is-positive = between (fin false 884279719003555 (negsuc 46)) x (fin false 1 (pos 24)) tt tt (T-of lo) (T-of hi)
-
+module _ (x : Float) (f : T (fits binary64 x)) (is-positive : T (positive x)) (lo : T (le two-pi x)) where
   from : (a : ℕ) → HasValue x false a (2 ^ 1074) → 884279719003555 * 2 ^ 1074 ≤ a * 2 ^ 47
-  from a v = values-of-le (fin false 884279719003555 (negsuc 46)) x 884279719003555 (2 ^ 47) a (2 ^ 1074) tt is-positive (refl, refl) v (T-of lo)
+  from a v = values-of-le two-pi x 884279719003555 (2 ^ 47) a (2 ^ 1074) tt is-positive (refl, refl) v lo
 
-  upto : (a : ℕ) → HasValue x false a (2 ^ 1074) → a * 1 ≤ 2 ^ 24 * 2 ^ 1074
-  upto a v = values-of-le x (fin false 1 (pos 24)) a (2 ^ 1074) (2 ^ 24) 1 is-positive tt v (refl, refl) (T-of hi)
-
-  place : (E t : ℕ) → HasValue x false ((H + t) * 2 ^ E) (2 ^ 1074) → t < H → (1023 < E) × (E < 1047)
-  place E t v l = (lt-of-not-le below, lt-of-not-le above)
+  place : (E t : ℕ) → HasValue x false ((H + t) * 2 ^ E) (2 ^ 1074) → t < H → 1023 < E
+  place E t v l = lt-of-not-le below
     where
       below : E ≤ 1023 → ⊥
       below g =
           let w : H + t ≤ 9007199254740992 = omega arith in
           not-le-of-lt (lit< {m = 9007199254740992 * 2 ^ 1023 * 2 ^ 47} {n = 884279719003555 * 2 ^ 1074} tt)
           (le-trans (from ((H + t) * 2 ^ E) v) (mul-le-mul-right (2 ^ 47) (mul-le-mul w (pow-mono g))))
-
-      above : 1047 ≤ E → ⊥
-      above g =
-          not-le-of-lt (lit< {m = 2 ^ 24 * 2 ^ 1074} {n = H * 2 ^ 1047 * 1} tt)
-          (le-trans (mul-le-mul-right 1 (mul-le-mul (le-add-right H t) (pow-mono g))) (upto ((H + t) * 2 ^ E) v))
 
   pub turned-digits : Turned x
   turned-digits = go (toBits binary64 x / H) refl
@@ -112,7 +138,6 @@ module _ (x : Float) (f : T (fits binary64 x)) (lo : le (fin false 8842797190035
           let e : 1024 + k ≡ E = omega arith in
           record {
             low = omega arith;
-            high = omega arith;
             value =
                 subst (λ (z : ℕ). HasValue x false ((t + H) * 2 ^ (z - 1025)) (2 ^ 50)) (sym i)
                 (rescale x false ((H + t) * 2 ^ E) (2 ^ 1074) ((t + H) * 2 ^ k) (2 ^ 50) (pow-pos 1074)
@@ -144,17 +169,15 @@ neg-turned (inf s) = refl
 neg-turned (fin true m e) = neg-round false (m * up e * 2 ^ 47 % (884279719003555 * 1 * down e)) (down e * 2 ^ 47)
 neg-turned (fin false m e) = neg-round true (m * up e * 2 ^ 47 % (884279719003555 * 1 * down e)) (down e * 2 ^ 47)
 
--- ---- m * 2 ^ k by the turn, 64 bits at a time
-fits-64 : (a k : ℕ) → a < 9007199254740992 → k ≤ 11 → a * 2 ^ k % 18446744073709551616 ≡ a * 2 ^ k
-fits-64 a k h l = mod-eq-of-lt (lt-of-lt-of-le (mul-lt-mul-of-pos-right h (pow-pos k)) (mul-le-mul-left 9007199254740992 (pow-mono l)))
-
-pub one-division : (m k : ℕ) → m < 9007199254740992 → k ≤ 11 → m * 2 ^ k % 18446744073709551616 % turn ≡ m * 2 ^ k % turn
-one-division m k h l = ap (λ (z : ℕ). z % turn) (fits-64 m k h l)
-
-pub two-divisions : (m k : ℕ) → 11 < k → k ≤ 22 → m * 2048 % turn * 2 ^ (k - 11) % 18446744073709551616 % turn ≡ m * 2 ^ k % turn
-two-divisions m k l h =
-    let r : m * 2048 % turn < turn = mod-lt (m * 2048) (zero-lt-suc 7074237752028439) in
+-- ---- m * 2 ^ k by the turn, eleven digits at a time
+pub eleven : (r k : ℕ) → 11 ≤ k → r * 2048 % turn * 2 ^ (k - 11) % turn ≡ r * 2 ^ k % turn
+eleven r k l =
     let e : 11 + (k - 11) ≡ k = omega arith in
-    ap (λ (z : ℕ). z % turn) (fits-64 (m * 2048 % turn) (k - 11) (omega arith) (omega arith))
-    ∙ mod-mul (m * 2048) (2 ^ (k - 11)) turn
-    ∙ ap (λ (z : ℕ). z % turn) (mul-assoc m 2048 (2 ^ (k - 11)) ∙ ap (λ (z : ℕ). m * z) (sym (pow-add 2 11 (k - 11)) ∙ ap (λ (z : ℕ). 2 ^ z) e))
+    mod-mul (r * 2048) (2 ^ (k - 11)) turn
+    ∙ ap (λ (z : ℕ). z % turn) (mul-assoc r 2048 (2 ^ (k - 11)) ∙ ap (λ (z : ℕ). r * z) (sym (pow-add 2 11 (k - 11)) ∙ ap (λ (z : ℕ). 2 ^ z) e))
+
+pub last : (r k : ℕ) → r < 9007199254740992 → k ≤ 11 → r * 2 ^ k % 18446744073709551616 % turn ≡ r * 2 ^ k % turn
+last r k h l = ap (λ (z : ℕ). z % turn) (mod-eq-of-lt (lt-of-lt-of-le (mul-lt-mul-of-pos-right h (pow-pos k)) (mul-le-mul-left 9007199254740992 (pow-mono l))))
+
+pub below-turn : (n : ℕ) → n % turn < 9007199254740992
+below-turn n = let l : n % turn < turn = mod-lt n (zero-lt-suc 7074237752028439) in omega arith

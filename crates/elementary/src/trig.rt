@@ -1,9 +1,9 @@
 // Sine and cosine: the argument brought within a quarter turn of zero, and a Taylor polynomial.
 ghost use mathlib.Core.Path.{_≡_};
-ghost use mathlib.Core.Bool.{true};
-ghost use Prim.Native.Nat.{_*_, _%_, _^_, _≤_, _<_};
-ghost use lib.Ieee.{le};
-ghost use Rattle.elementary.specs.Notation.{dec, two-pi};
+ghost use mathlib.Core.Bool.{false};
+ghost use Prim.Native.Nat.{_*_, _%_, _^_, _<_};
+ghost use lib.Ieee.{lt};
+ghost use Rattle.elementary.specs.Notation.{two-pi};
 ghost use Rattle.elementary.specs.Trig.{turned, wrapped, folded, sinPoly, cosPoly, sinOf, signed, cosOf, sinCos};
 use crate::HALF_PI;
 use crate::PI;
@@ -35,8 +35,7 @@ pub fn sin_cos(x: f64) -> SinCos
     SinCos { sin: s, cos: c }
 }
 
-// The remainder by two pi, the same bits as `x % TWO_PI`. That is a call of fmod, whose time grows
-// with the quotient: up to 2^24 it is not made.
+// The remainder by two pi, the bits of C's fmod, which is not called.
 pub fn rem_turn(x: f64) -> f64
     ensures { λ r. ⌜ r ≡ turned x ⌝ }
 {
@@ -47,45 +46,40 @@ pub fn rem_turn(x: f64) -> f64
         if x < 12.566370614359172 {
             return x - TWO_PI;
         }
+        return rem_whole(x);
     }
-    if x >= TWO_PI {
-        if x <= 16777216.0 {
-            return rem_whole(x);
-        }
-    }
-    let y = -x;
-    if y >= TWO_PI {
-        if y <= 16777216.0 {
-            return -rem_whole(y);
-        }
-    }
-    x % TWO_PI
+    -rem_whole(-x)
 }
 
 // The remainder in whole numbers: from two pi on, x is a whole number of 2^-50, and two pi is
 // 7074237752028440 of them.
 fn rem_whole(x: f64) -> f64
-    requires { ⌜ (le two-pi x ≡ true) × (le x (dec 16777216 0) ≡ true) ⌝ }
+    requires { ⌜ lt x two-pi ≡ false ⌝ }
     ensures { λ r. ⌜ r ≡ turned x ⌝ }
 {
-    let b = f64::to_bits(x);
-    let r = rem_digits(
-        b % 4503599627370496 + 4503599627370496,
-        b / 4503599627370496 - 1025,
-    );
-    r as f64 / 1125899906842624.0
+    if x < 1.0 / 0.0 {
+        let b = f64::to_bits(x);
+        let r = rem_digits(
+            b % 4503599627370496 + 4503599627370496,
+            b / 4503599627370496 - 1025,
+        );
+        return r as f64 / 1125899906842624.0;
+    }
+    0.0 / 0.0
 }
 
-// The remainder of m * 2^k, in one division or in two.
+// The remainder of m * 2^k, eleven digits at a time: one division up to 2^14, two up to 2^25.
 fn rem_digits(m: u64, k: u64) -> u64
-    requires { ⌜ (m < 9007199254740992) × (k ≤ 22) ⌝ }
+    requires { ⌜ m < 9007199254740992 ⌝ }
     ensures { λ r. ⌜ r ≡ m * 2 ^ k % 7074237752028440 ⌝ }
 {
-    if k <= 11 {
-        return (m << k) % 7074237752028440;
+    let mut r = m;
+    let mut left = k;
+    while left > 11 {
+        r = r * 2048 % 7074237752028440;
+        left -= 11;
     }
-    let r = m * 2048 % 7074237752028440;
-    (r << (k - 11)) % 7074237752028440
+    (r << left) % 7074237752028440
 }
 
 // From a remainder to -pi .. pi.

@@ -2,11 +2,16 @@
 use mathlib.Core.Path.{_≡_, refl}
 use mathlib.Core.Bool.{false}
 use lib.IntN.{pos, negsuc}
-use lib.Ieee.{fin, round, units, odd, size, span, climb}
+use lib.Ieee.{fin, add, sum, round, units, odd, size, span, climb}
 use lib.Count.{trailingZeros}
 use Rattle.instant.specs.Quantity.{over, minutesOf, decimalOf, poweredOf, scaledOf}
 use Rattle.instant.specs.Calendar.{daysIn, daysBefore, calendarEnd, inCalendar, yearInRange, lastDay, dayInRange, epochMicros, epochOf, yearsSince, dateOf}
 use Rattle.instant.specs.Move.{spanLimit, inSpan, landed, reached, moveOf, refusal}
+use Rattle.elementary.specs.Notation.{dec}
+use Rattle.instant.specs.Since.{sinceOf, elapsedRefusal}
+use Rattle.instant.specs.Greenwich.{epochDaysOf, julianOf, julianAt, greenwichAt, daysRefusal, angleRefusal}
+use Rattle.instant.specs.declared.Elapsed.the-variants as elapsed
+use Rattle.instant.specs.declared.DayCount.the-variants as days
 use Rattle.instant.specs.declared.Epoch.the-variants as epoch
 use Rattle.instant.specs.declared.Dated.the-variants as dated
 use Rattle.instant.specs.declared.Moved.the-variants as moved
@@ -45,6 +50,28 @@ too-long = refl
 before-1957 : refusal (moveOf 0 (negsuc 0)) ≡ 6
 unfolding refusal moveOf inSpan spanLimit inCalendar calendarEnd daysBefore daysIn reached landed
 before-1957 = refl
+
+-- one microsecond before the epoch; and refusal 6 at 2057 January 1, 0h, for a time, days and an angle
+just-before : sinceOf 1372359019733567 1372359019733568 ≡ elapsed.Is (record { 0 = negsuc 0 })
+unfolding sinceOf inCalendar calendarEnd daysBefore daysIn
+just-before = refl
+
+no-time : elapsedRefusal (sinceOf 0 3155760000000000) ≡ 6
+unfolding elapsedRefusal sinceOf inCalendar calendarEnd daysBefore daysIn
+no-time = refl
+
+no-days : daysRefusal (julianAt 3155760000000000) ≡ 6
+unfolding daysRefusal julianAt inCalendar calendarEnd daysBefore daysIn
+no-days = refl
+
+no-angle : angleRefusal (greenwichAt 3155760000000000) ≡ 6
+unfolding angleRefusal greenwichAt inCalendar calendarEnd daysBefore daysIn
+no-angle = refl
+
+-- 2000 January 1, 12h, is Julian date 2451545
+noon : julianAt 1356955200000000 ≡ days.Is (record { 0 = dec 2451545 0 })
+unfolding julianAt julianOf epochDaysOf inCalendar calendarEnd daysBefore daysIn add sum round units odd size span climb trailingZeros
+noon = refl
 
 -- a day is 1440 minutes; 28098-4 is 0.000028098, and -12345+6 is -123450, which is as many minutes as -7407000000000 microseconds
 one-day : minutesOf (pos 86400000000) ≡ fin false 45 (pos 5)

@@ -10,6 +10,7 @@ ghost use Rattle.instant.specs.Calendar.{inCalendar, daysBefore, lastDay
 ghost use Rattle.instant.specs.Move.{landed, moveOf};
 ghost use Rattle.instant.specs.Since.{sinceOf};
 ghost use Rattle.instant.specs.Greenwich.{epochDaysOf, julianOf, siderealOf, quadrant, gstimeOf, epochDaysAt, julianAt, greenwichAt};
+use integers::magnitude;
 
 // A signed count of microseconds.
 pub struct Microseconds(pub i64);
@@ -27,17 +28,6 @@ pub struct Strides(pub u32);
 pub struct Radians(pub f64);
 
 pub struct Degrees(pub f64);
-
-fn magnitude(x: i64) -> u64
-    ensures { λ r. ⌜ r ≡ natAbs x ⌝ }
-{
-    if x < 0 {
-        let y = !x;
-        y as u64 + 1
-    } else {
-        x as u64
-    }
-}
 
 // How far a time lies from 0.
 pub fn distance(t: Microseconds) -> u64

@@ -20,6 +20,7 @@ use Rattle.tle.specs.declared.Refusal.the-variants.{Length}
 use Rattle.tle.specs.declared.Verdict.{Verdict}
 use Rattle.tle.specs.declared.Verdict.the-variants.{Lawful, Refused}
 use Rattle.listing.specs.Listing.{readingText, linesText, pairText}
+use Rattle.listing.specs.Claims.{FedPrintsWhole, SeventyDecide}
 
 -- a line of more than 69 bytes is refused, whatever they are
 long : (which : Line) (layout a : List ℕ) → 69 < length a → verdictOf which layout a ≡ Refused (Length which)
@@ -49,11 +50,10 @@ second-kept a b false e =
     rw (long Two layout2 (take 70 b) (shorter b h), long Two layout2 b (omega arith))
     (no-fields (verdictOf One layout1 a) (Length Two) (fieldsOf a (take 70 b)) (fieldsOf a b))
 
-pub enough : (a b : List ℕ) → readOf (kept a) (kept b) ≡ readOf a b
+pub enough : SeventyDecide
 enough a b = first-kept a (kept b) (leb (length a) 70) refl ∙ second-kept a b (leb (length b) 70) refl
 
--- The state after a whole input, in whatever pieces it came, prints the pair of that input.
-pub fed-text : (input : List ℕ) → linesText (fed started input) ≡ pairText input
+pub fed-text : FedPrintsWhole
 unfolding linesText pairText
 fed-text input =
     let w = whole input in

@@ -10,6 +10,7 @@ use borrow.Author.Tests.{le-leb, lt-leb}
 use Rattle.text.specs.Output.{Put, most, bytes}
 use Rattle.text.proofs.Pieces.{measured, has-room, too-short}
 use Rattle.text.proofs.Lengths.{Within, within, decimal-within, signed-within, five-within, line-within}
+use Rattle.tle.specs.Read.{letter}
 use Rattle.tle.specs.Refusals.{numberOf}
 use Rattle.tle.specs.declared.Designator.{Designator}
 use Rattle.tle.specs.declared.Designator.the-variants.{Blank, Piece}
@@ -19,7 +20,8 @@ use Rattle.tle.specs.declared.Reading.{Reading}
 use Rattle.tle.specs.declared.Reading.the-variants.{Record, Refused}
 use Rattle.listing.specs.declared.Printed.{Printed}
 use Rattle.listing.specs.declared.Printed.the-variants.{Written, RoomTooShort}
-use Rattle.listing.specs.Listing.{classLetter, before, trimmed, designatorText, epochText, scaledText, count, fields1, fields2, recordText, readingText, answer, Prints}
+use Rattle.listing.specs.Listing.{before, trimmed, designatorText, epochText, scaledText, count, fields1, fields2, recordText, readingText, answer, Prints}
+use Rattle.listing.specs.Claims.{TextsFit}
 
 one : (b : ℕ) → Within (b ∷ []) 1
 one b = record { at-most = omega arith }
@@ -62,7 +64,7 @@ fields1-within : (r : tle.Record) → Within (fields1 r) 450
 unfolding fields1
 fields1-within r =
     let h = within (count-within (bytes "number ") (r .number))
-    (within (line-within (bytes "class ") (one (classLetter (r .class))))
+    (within (line-within (bytes "class ") (one (letter (r .class))))
     (within (line-within (bytes "designator ") (designator-within (r .designator)))
     (within (line-within (bytes "epoch ") (epoch-within (r .year) (r .day)))
     (within (line-within (bytes "ndot ") (signed-within (r .ndot)))
@@ -84,8 +86,7 @@ fields2-within r =
     (count-within (bytes "revolution ") (r .revolution))))))) in
     record { at-most = omega (arith, h .at-most) }
 
--- a buffer of this size is never too short
-pub reading-within : (x : Reading) → length (readingText x) ≤ 900
+pub reading-within : TextsFit
 unfolding readingText recordText
 reading-within (Record r) = within (fields1-within r) (fields2-within r) .at-most
 reading-within (Refused why) = omega (arith, count-within (bytes "refused ") (numberOf why) .at-most)

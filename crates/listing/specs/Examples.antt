@@ -1,46 +1,32 @@
--- Document 01's example, whole, and the cases beside it, each by computation.
+-- Document 01, "One pair, printed": its example, whole, and the cases beside it, each by computation.
 use mathlib.Core.Path.{_≡_, refl}
 use mathlib.Core.List.{List, [], _∷_, _++_}
 use Prim.Native.Nat.{ℕ}
 use Prim.Native.String.{String}
-use lib.IntN.{pos, negsuc}
 use Rattle.text.specs.Output.{bytes, spell, signed, glyph, places, line}
-use Rattle.tle.specs.declared.Class.the-variants.{Unclassified}
+use Rattle.text.specs.Input.{lineOf, restOf}
+use Rattle.instant.specs.Calendar.{lastDay, dayInRange}
+use Rattle.tle.specs.Layout.{agreed}
+use Rattle.tle.specs.Number as tle-number
+use Rattle.tle.specs.Number.{digitOf, valueOn, sum, minus}
+use Rattle.tle.specs.Read.{verdictOf, numberAt, pairOf, classOf, letter, designatorAt, yearOf, ndotAt, scaledAt, dayAt, motionAt, degreesAt, fieldsOf, formOf, rangesOf, readOf}
 use Rattle.tle.specs.declared.Designator.the-variants.{Blank, Piece}
 use Rattle.tle.specs.declared.Field.the-variants.{Day}
-use Rattle.tle.specs.declared.Record as tle
-use Rattle.tle.specs.declared.Reading.the-variants.{Record, Refused}
+use Rattle.tle.specs.declared.Reading.the-variants.{Refused}
 use Rattle.tle.specs.declared.Refusal.the-variants.{Range}
-use Rattle.listing.specs.Listing.{classLetter, trimmed, designatorText, epochText, scaledText, fields1, fields2, recordText, readingText}
-
--- what reading the two lines gives
-example : tle.Record
-example = record {
-  number = 5;
-  class = Unclassified;
-  designator = Piece 58002 66 32 32;
-  year = 2000;
-  day = 17978495062;
-  ndot = pos 23;
-  nddot = record { mantissa = pos 0; exponent = pos 0 };
-  bstar = record { mantissa = pos 28098; exponent = negsuc 3 };
-  ephemeris = 0;
-  element = 475;
-  inclination = 342682;
-  node = 3487242;
-  eccentricity = 1859667;
-  perigee = 3317664;
-  anomaly = 193264;
-  motion = 1082419157;
-  revolution = 41366;
-}
+use Rattle.listing.specs.Listing.{trimmed, designatorText, epochText, scaledText, fields1, fields2, recordText, readingText, pairText}
 
 -- lines of text, each ended by a newline
 lines : List String → List ℕ
 lines [] = []
 lines (l ∷ ls) = bytes l ++ (10 ∷ lines ls)
 
-example-text : readingText (Record example) ≡ lines
+-- from the bytes of 002's two lines to the whole output
+example : pairText (lines
+    ("1 00005U 58002B   00179.78495062  .00000023  00000-0  28098-4 0  4753"
+    ∷ "2 00005  34.2682 348.7242 1859667 331.7664  19.3264 10.82419157413667"
+    ∷ []))
+    ≡ lines
     ("number 5"
     ∷ "class U"
     ∷ "designator 58002B"
@@ -58,8 +44,8 @@ example-text : readingText (Record example) ≡ lines
     ∷ "motion 1082419157"
     ∷ "revolution 41366"
     ∷ [])
-unfolding example lines readingText recordText fields1 fields2 scaledText epochText designatorText trimmed classLetter line places glyph signed spell
-example-text = refl
+unfolding pairText lines lineOf restOf readOf formOf pairOf verdictOf agreed sum fieldsOf rangesOf dayInRange lastDay numberAt classOf designatorAt yearOf dayAt ndotAt scaledAt degreesAt motionAt valueOn digitOf tle-number.signed minus readingText recordText fields1 fields2 scaledText epochText designatorText trimmed letter line places glyph signed spell
+example = refl
 
 refused-text : readingText (Refused (Range Day)) ≡ bytes "refused 6\n"
 unfolding readingText line spell

@@ -1,6 +1,5 @@
 -- Document 01, "One pair, printed": the sixteen lines of a record, or `refused` and the number. For any record, an illegal one too.
 use Prim.Native.Nat.{ℕ, _*_, _/_, _%_}
-use Prim.Native.Char.{code}
 use mathlib.Core.Path.{_≡_}
 use mathlib.Core.List.{List, [], _∷_, _++_}
 use mathlib.Core.Bool.{cond}
@@ -9,10 +8,8 @@ use lib.ListN.{length}
 use Rattle.text.specs.Output.{bytes, decimal, signed, places, line, fronted}
 use Rattle.text.specs.Input.{line1, line2, held}
 use Rattle.text.specs.declared.input.Lines.{Lines}
-use Rattle.tle.specs.Read.{readOf}
+use Rattle.tle.specs.Read.{letter, readOf}
 use Rattle.tle.specs.Refusals.{numberOf}
-use Rattle.tle.specs.declared.Class.{Class}
-use Rattle.tle.specs.declared.Class.the-variants.{Unclassified, Classified, Secret}
 use Rattle.tle.specs.declared.Designator.{Designator}
 use Rattle.tle.specs.declared.Designator.the-variants.{Blank, Piece}
 use Rattle.tle.specs.declared.Scaled.{Scaled}
@@ -21,11 +18,6 @@ use Rattle.tle.specs.declared.Reading.{Reading}
 use Rattle.tle.specs.declared.Reading.the-variants.{Record, Refused}
 use Rattle.listing.specs.declared.Printed.{Printed}
 use Rattle.listing.specs.declared.Printed.the-variants.{Written, RoomTooShort}
-
-unfoldable pub classLetter : Class → ℕ
-classLetter Unclassified = code "U"
-classLetter Classified = code "C"
-classLetter Secret = code "S"
 
 -- a byte before a text that has lost its trailing blanks
 abbrev pub before : ℕ → List ℕ → List ℕ
@@ -62,7 +54,7 @@ count label n = line label (decimal n)
 unfoldable pub fields1 : tle.Record → List ℕ
 fields1 r =
     count (bytes "number ") (r .number)
-    ++ (line (bytes "class ") (classLetter (r .class) ∷ [])
+    ++ (line (bytes "class ") (letter (r .class) ∷ [])
     ++ (line (bytes "designator ") (designatorText (r .designator))
     ++ (line (bytes "epoch ") (epochText (r .year) (r .day))
     ++ (line (bytes "ndot ") (signed (r .ndot))

@@ -5,8 +5,8 @@ ghost use mathlib.Core.List.{[], _∷_, _++_};
 ghost use Prim.Native.Nat.{_≤_, min};
 ghost use lib.ListN.{take};
 ghost use Rattle.text.specs.Output.{Put, line, decimal, signed};
-ghost use Rattle.listing.specs.Listing.{classLetter, trimmed, designatorText, epochText, scaledText, fields1, fields2, recordText, readingText, linesText, pairText, Prints};
-ghost use Rattle.tle.specs.Read.{readOf};
+ghost use Rattle.listing.specs.Listing.{trimmed, designatorText, epochText, scaledText, fields1, fields2, recordText, readingText, linesText, pairText, Prints};
+ghost use Rattle.tle.specs.Read.{letter, readOf};
 use text::Lines;
 use text::put_byte;
 use text::put_bytes;
@@ -20,22 +20,12 @@ use tle::Reading;
 use tle::Record;
 use tle::Scaled;
 
-fn class_letter(class: Class) -> u8
-    ensures { λ r. ⌜ r ≡ classLetter class ⌝ }
-{
-    match class {
-        Class::Unclassified => b'U',
-        Class::Classified => b'C',
-        Class::Secret => b'S',
-    }
-}
-
 fn put_class(out: &mut [u8], at: usize, label: &[u8], class: Class) -> usize
-    ensures { λ r. ⌜ Put (now (out .entry)) at (line (now (label .entry)) (classLetter class ∷ [])) (now (out .exit)) r ⌝ }
+    ensures { λ r. ⌜ Put (now (out .entry)) at (line (now (label .entry)) (letter class ∷ [])) (now (out .exit)) r ⌝ }
 {
-    let letter = class_letter(class);
+    let b = class.letter();
     let p = put_bytes(out, at, label);
-    let p = put_byte(out, p, letter);
+    let p = put_byte(out, p, b);
     put_byte(out, p, b'\n')
 }
 

@@ -26,6 +26,6 @@ finiteRates r = finite (r .mdot) && finite (r .argpdot) && finite (r .nodedot) &
 unfoldable pub finiteTerms : Terms → Bool
 finiteTerms t = finite (t .con41) && finite (t .x1mth2) && finite (t .x7thm1) && finite (t .xlcof) && finite (t .aycof)
 
--- `kept` is not in 002's record: see `proofs/Kept`
+-- `kept` is not in 002's record: see specs/Kept
 unfoldable pub finiteNear : NearEarth → Bool
 finiteNear n = finiteElements (n .elements) && finiteDrag (n .drag) && finiteHigher (n .higher) && finiteRates (n .rates) && finiteTerms (n .terms)

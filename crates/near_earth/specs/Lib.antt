@@ -1,4 +1,5 @@
 pub mod Powers
 pub mod Initl
+pub mod Kept
 pub mod Sgp4init
 pub mod Finite

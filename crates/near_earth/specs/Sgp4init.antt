@@ -11,13 +11,13 @@ use Rattle.satellite.specs.declared.Drag.{Drag}
 use Rattle.satellite.specs.declared.Higher.{Higher}
 use Rattle.satellite.specs.declared.Rates.{Rates}
 use Rattle.satellite.specs.declared.Terms.{Terms}
-use Rattle.satellite.specs.declared.Kept.{Kept}
 use Rattle.satellite.specs.declared.NearEarth.{NearEarth}
 use Rattle.near_earth.specs.Powers.{pow3, pow4}
-use Rattle.near_earth.specs.Initl.{initl, guard}
+use Rattle.near_earth.specs.Initl.{guard}
 use Rattle.near_earth.specs.declared.parts.Initl.{Initl}
 use Rattle.near_earth.specs.declared.parts.Atmosphere.{Atmosphere}
 use Rattle.near_earth.specs.declared.parts.Shape.{Shape}
+unfoldable pub use Rattle.near_earth.specs.Kept.{kept}
 
 -- 3057
 unfoldable pub simple : Float → Bool
@@ -171,11 +171,7 @@ unfoldable pub recovered : Elements → Initl → Elements
 recovered el i =
     record { bstar = el .bstar; ecco = el .ecco; argpo = el .argpo; inclo = el .inclo; mo = el .mo; no = i .no; nodeo = el .nodeo }
 
--- what sgp4 computes at every time and always the same
-unfoldable pub kept : Initl → Kept
-kept i = record { ao = i .ao; sinio = i .sinio; cosio = i .cosio }
-
--- under the guard
+-- 3056-3129 and 3192-3214, under the guard; `kept` is not in 002's record (specs/Kept)
 unfoldable pub filled : Elements → Initl → Bool → NearEarth
 filled el i deep =
     let a = atmosphere (i .rp) in
@@ -209,7 +205,3 @@ zeroed el i =
 -- of the elements, what initl gives for them, and whether they are deep space
 unfoldable pub nearEarth : Elements → Initl → Bool → NearEarth
 nearEarth el i deep = cond (guard i) (filled el i deep) (zeroed el i)
-
--- a near-Earth satellite
-unfoldable pub sgp4init : Elements → NearEarth
-sgp4init el = nearEarth el (initl (el .ecco) (el .inclo) (el .no)) false

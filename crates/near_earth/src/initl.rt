@@ -5,6 +5,7 @@ use crate::parts::Initl;
 use elementary::sin_cos;
 use elementary::sqrt;
 use elementary::two_thirds;
+use instant::Radians;
 use wgs72::J2;
 use wgs72::xke;
 
@@ -18,13 +19,13 @@ fn unkozai(no: f64, ak: f64, cosio2: f64, rteosq: f64, omeosq: f64) -> f64
     no / (1.0 + del)
 }
 
-pub fn initl(ecco: f64, inclo: f64, no: f64) -> Initl
-    ensures { λ r. ⌜ r ≡ I.initl ecco inclo no ⌝ }
+pub fn initl(ecco: f64, inclo: Radians, no: f64) -> Initl
+    ensures { λ r. ⌜ r ≡ I.initl ecco (inclo .0) no ⌝ }
 {
     let eccsq = ecco * ecco;
     let omeosq = 1.0 - eccsq;
     let rteosq = sqrt(omeosq);
-    let io = sin_cos(inclo);
+    let io = sin_cos(inclo.0);
     let cosio = io.cos;
     let cosio2 = cosio * cosio;
     let ak = two_thirds(xke() / no);

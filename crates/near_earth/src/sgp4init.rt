@@ -1,9 +1,8 @@
 // 002's sgp4init but for deep space.
 ghost use mathlib.Core.Path.{_≡_};
-ghost use mathlib.Core.Bool.{false};
+ghost use Rattle.near_earth.specs.Kept.{kept};
 ghost use Rattle.near_earth.specs.Sgp4init as N;
 use crate::initl::guard;
-use crate::initl::initl;
 use crate::parts::Atmosphere;
 use crate::parts::Initl;
 use crate::parts::Shape;
@@ -254,8 +253,9 @@ fn recovered(el: Elements, i: Initl) -> Elements
     }
 }
 
+// What sgp4 would compute at every time and always the same.
 fn kept(i: Initl) -> Kept
-    ensures { λ r. ⌜ r ≡ N.kept i ⌝ }
+    ensures { λ r. ⌜ r ≡ kept i ⌝ }
 {
     Kept {
         ao: i.ao,
@@ -343,11 +343,4 @@ pub fn near_earth(el: Elements, i: Initl, deep: bool) -> NearEarth
         return filled(el, i, deep);
     }
     zeroed(el, i)
-}
-
-// A near-Earth satellite.
-pub fn sgp4init(el: Elements) -> NearEarth
-    ensures { λ r. ⌜ r ≡ N.sgp4init el ⌝ }
-{
-    near_earth(el, initl(el.ecco, el.inclo, el.no), false)
 }

@@ -192,7 +192,7 @@ fn started(el: Elements, t: Instant) -> Opening
     requires { ⌜ inCalendar (t .0) ≡ true ⌝ }
     ensures { λ r. ⌜ r ≡ O.started el (t .0) ⌝ }
 {
-    let i = initl(el.ecco, el.inclo, el.no);
+    let i = initl(el.ecco, Radians(el.inclo), el.no);
     let days = days_of(t);
     let gsto = gsto_of(t);
     above(el, i, days, gsto)

@@ -7,18 +7,19 @@ use Rattle.resonance.specs.declared.place.Place.{Place}
 use Rattle.resonance.specs.declared.place.Advance.{Advance}
 use Rattle.resonance.specs.Time.{inRange}
 use Rattle.sgp4.specs.declared.Row.{Row}
-use Rattle.sgp4.specs.Row.{refusedRow, rowAt}
+use Rattle.sgp4.specs.Row.{refusedRow}
+use Rattle.sgp4.specs.Kept.{rowFrom}
 use Rattle.requests.specs.declared.Asked.{Asked}
 use Rattle.requests.specs.declared.AskedTwo.{AskedTwo}
 use Rattle.requests.specs.Request.{reached, choose, inside, outside, asked}
 use Rattle.requests.specs.Two.{askedTwo}
 
-pub in-range : (k : Model) (p : Place) (t : ℤ) (b : Bool) (a : Advance) (row : Row) → b ≡ inRange t → b ≡ true → a ≡ reached k p t → row ≡ rowAt k (a .place) t
+pub in-range : (k : Model) (p : Place) (t : ℤ) (b : Bool) (a : Advance) (row : Row) → b ≡ inRange t → b ≡ true → a ≡ reached k p t → row ≡ rowFrom k (a .place) t
     → _≡_ {A = Asked} (record { row = row; strides = a .strides; place = a .place }) (asked k p t)
 unfolding asked
 in-range k p t b a row hb h ha hr =
     ap (λ (r : Row). record { row = r; strides = a .strides; place = a .place }) hr
-    ∙ ap (λ (z : Advance). record { row = rowAt k (z .place) t; strides = z .strides; place = z .place }) ha
+    ∙ ap (λ (z : Advance). record { row = rowFrom k (z .place) t; strides = z .strides; place = z .place }) ha
     ∙ sym (ap (λ (x : Bool). choose x (inside k p t) (outside p)) (sym hb ∙ h))
 
 pub out-of-range : (k : Model) (p : Place) (t : ℤ) (b : Bool) (row : Row) → b ≡ inRange t → b ≡ false → row ≡ refusedRow 9

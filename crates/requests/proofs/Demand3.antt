@@ -19,7 +19,7 @@ use Rattle.resonance.specs.Place.{sameSide, atEpoch, epochOf, advanceOf, rise}
 use Rattle.resonance.specs.Time.{sideOf, inRange, resonant, strideNeed, wholeStrides}
 use Rattle.resonance.proofs.Iterates.{position, position-zero, serves, advanced-position, strides-position}
 use Rattle.sgp4.specs.Sgp4.{noIntegrator, integratorBy, integratorOf}
-use Rattle.sgp4.specs.Row.{rowAt}
+use Rattle.sgp4.specs.Kept.{rowFrom}
 use Rattle.tle.specs.declared.Record.{Record}
 use Rattle.tle.specs.declared.Reading.the-variants as reading
 use Rattle.tle.specs.Read.{readOf}
@@ -53,7 +53,7 @@ row-by : (k : Model) (l : Last) (t : ℤ) (b : Bool) → choose b (inside k (pla
 unfolding reached advanceOf
 row-by k l t true =
     let i = integratorOf k in
-    ap (λ p. rowAt k p t)
+    ap (λ p. rowFrom k p t)
     (advanced-position i (sideAt l) (sideOf t) (needAt i l) (strideNeed i t) ∙ sym (advanced-position i Forward (sideOf t) 0 (strideNeed i t)))
 row-by k l t false = refl
 

@@ -16,7 +16,8 @@ use Rattle.resonance.specs.declared.place.Place.{Place}
 use Rattle.resonance.specs.Place.{epochOf}
 use Rattle.resonance.specs.Time.{resonant, wholeStrides, inRange}
 use Rattle.sgp4.specs.Sgp4.{integratorOf}
-use Rattle.sgp4.specs.Row.{refusedRow, rowOf, rowAt}
+use Rattle.sgp4.specs.Row.{refusedRow, rowOf}
+use Rattle.sgp4.specs.Kept.{rowFrom}
 use Rattle.tle.specs.declared.Record.{Record}
 use Rattle.opening.specs.declared.opening.Satellite.{Satellite}
 use Rattle.opening.specs.declared.opening.Opening.the-variants as opening
@@ -43,7 +44,7 @@ row-nine (Given s k) = refl
 row-nine (Refused why) = not-nine why
 
 nine-by : (k : Model) (p : Place) (t : ℤ) (b : Bool) → eqb (choose b (inside k p t) (outside p) .row .refusal) 9 ≡ not b
-unfolding rowAt refusedRow
+unfolding rowFrom refusedRow
 nine-by k p t true = row-nine _
 nine-by k p t false = refl
 

@@ -4,4 +4,5 @@ pub mod Filling
 mod Listing
 pub mod Nine
 pub mod Demand3
+pub mod Plain
 pub mod Edges

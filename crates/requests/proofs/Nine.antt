@@ -11,8 +11,8 @@ use Rattle.state.specs.declared.answer.Answer.the-variants.{Given, Refused}
 use Rattle.state.specs.Answer.{number}
 use Rattle.resonance.specs.declared.place.Place.{Place}
 use Rattle.resonance.specs.Time.{inRange}
-use Rattle.sgp4.specs.Sgp4.{stateAt}
-use Rattle.sgp4.specs.Row.{refusedRow, rowOf, rowAt}
+use Rattle.sgp4.specs.Row.{refusedRow, rowOf}
+use Rattle.sgp4.specs.Kept.{stateFrom, rowFrom}
 use Rattle.requests.specs.Request.{reached, choose, inside, outside, asked}
 
 other : (a : Answer) → eqb (rowOf a .refusal) 9 ≡ false
@@ -27,8 +27,8 @@ other (Refused refusals.NotFinite) = refl
 
 by-range : (b : Bool) (k : Model) (p : Place) (t : ℤ) (P : Bool → Place → Type 0) → P true p → P false (choose b (inside k p t) (outside p) .place)
     → P (eqb (choose b (inside k p t) (outside p) .row .refusal) 9) (choose b (inside k p t) (outside p) .place)
-unfolding rowAt refusedRow
-by-range true k p t P x y = subst (λ (b : Bool). P b (reached k p t .place)) (sym (other (stateAt k (reached k p t .place) (record { 0 = minutesOf t })))) y
+unfolding rowFrom refusedRow
+by-range true k p t P x y = subst (λ (b : Bool). P b (reached k p t .place)) (sym (other (stateFrom k (reached k p t .place) (record { 0 = minutesOf t })))) y
 by-range false k p t P x y = x
 
 -- what holds of refusal 9 with the position as it was, and of any other answer with the position reached, holds of every answer

@@ -9,7 +9,8 @@ use Rattle.resonance.specs.Place.{advanceOf}
 use Rattle.resonance.specs.Time.{sideOf, inRange, strideNeed}
 use Rattle.sgp4.specs.declared.Row.{Row}
 use Rattle.sgp4.specs.Sgp4.{integratorOf}
-use Rattle.sgp4.specs.Row.{refusedRow, rowAt}
+use Rattle.sgp4.specs.Row.{refusedRow}
+use Rattle.sgp4.specs.Kept.{rowFrom}
 use Rattle.opening.specs.declared.opening.Satellite.{Satellite}
 use Rattle.requests.specs.declared.Asked.{Asked}
 use Rattle.requests.specs.declared.Answered.{Answered}
@@ -22,9 +23,10 @@ abbrev pub choose : Bool → Asked → Asked → Asked
 choose true a b = a
 choose false a b = b
 
--- a time in range: the position of m is saved, whether the row there is refused or not
+-- a time in range: the position of m is saved, whether the row there is refused or not. `rowFrom` takes a satellite as it is handed in; of one that
+-- opening gives it is 002's own row (specs/Claims).
 abbrev pub inside : Model → Place → ℤ → Asked
-inside k p t = let a = reached k p t in record { row = rowAt k (a .place) t; strides = a .strides; place = a .place }
+inside k p t = let a = reached k p t in record { row = rowFrom k (a .place) t; strides = a .strides; place = a .place }
 
 -- a time out of range: refusal 9, no strides, and the position stays
 abbrev pub outside : Place → Asked

@@ -18,9 +18,9 @@ use resonance::time::stride_need;
 use satellite::Model;
 use sgp4::Row;
 use sgp4::integrator_of;
+use sgp4::pairs::rows_at;
 use sgp4::refused_row;
 use sgp4::row_at;
-use sgp4::rows_at;
 
 // What a time gives at a saved position, and what it makes of that.
 pub struct Asked {

@@ -5,3 +5,5 @@ mod Loads
 mod Posts
 pub mod Parts
 pub mod Sequences
+mod Records
+pub mod Trips

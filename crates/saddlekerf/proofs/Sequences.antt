@@ -1,8 +1,8 @@
 -- What is asked of lent memory is what is asked of the satellite that was opened into it.
-use Prim.Native.Nat.{ℕ, _≤_}
+use Prim.Native.Nat.{ℕ, _+_, _≤_}
 use mathlib.Core.Path.{_≡_, refl, sym, ap, _∙_}
 use mathlib.Core.Bool.{Bool, true, false, cond, _||_}
-use mathlib.Core.List.{List, [], _∷_, _++_}
+use mathlib.Core.List.{List, [], _∷_, _++_, map}
 use native.Mathlib.Omega.{arith}
 use lib.Dec.{eqb, ltb}
 use lib.IntN.{ℤ}
@@ -10,7 +10,9 @@ use lib.ListN.{length, length-append, length-drop}
 use lib.Ieee.{Float}
 use Rattle.tle.specs.declared.Refusal.{Refusal}
 use Rattle.tle.specs.declared.Refusal.the-variants as read
+use Rattle.satellite.specs.declared.Integrator.{Integrator}
 use Rattle.resonance.specs.declared.place.Place.{Place}
+use Rattle.resonance.specs.Time.{wholeStrides}
 use Rattle.opening.specs.declared.opening.Satellite.{Satellite}
 use Rattle.opening.specs.declared.opening.Refusal as O
 use Rattle.opening.specs.declared.opening.Refusal.the-variants as opening
@@ -18,8 +20,10 @@ use Rattle.opening.specs.declared.opening.PairOpening.{PairOpening}
 use Rattle.opening.specs.declared.opening.PairOpening.the-variants as pair
 use Rattle.opening.specs.Opening.{number, openPairOf}
 use Rattle.opening.proofs.Made.{made-of}
+use Rattle.sgp4.specs.declared.Row.{Row}
+use Rattle.sgp4.specs.Sgp4.{integratorOf}
 use Rattle.requests.specs.Request.{answered}
-use Rattle.requests.specs.Lists.{satelliteFrom, listRefusal}
+use Rattle.requests.specs.Lists.{satelliteFrom, listRefusal, listTimes, rowsFrom, refusalsOf, statesOf, roundsOf, over}
 use Rattle.requests.specs.Demand3 as D
 use Rattle.requests.proofs.Nine.{nine-or-not}
 use Rattle.requests.proofs.Demand3.{demand-3}
@@ -28,8 +32,40 @@ use Rattle.storage.proofs.Rooms.{enough, length-numbers, length-marks}
 use Rattle.storage.proofs.Kept.{kept, placed}
 use Rattle.saddlekerf.specs.Answer.{answer, refusalAnswer}
 use Rattle.saddlekerf.specs.Pairs.{openAnswer, openNumbers, openMarks}
-use Rattle.saddlekerf.specs.Requests.{requestShort, keptNumbers, keptMarks, Requested, listNumber, Listed}
-use Rattle.saddlekerf.specs.Sequences.{Memory, openedIn, Call, One, Many, Does, Calls, asks, requestsOf, after, Tells, Told, Sequences}
+use Rattle.saddlekerf.specs.Requests.{requestShort, rowPut, keptNumbers, keptMarks, Requested, listNumber, Listed}
+use Rattle.saddlekerf.specs.Sequences.{Memory, openedIn, Call, One, Many, Does, Calls, callTimes, timesOf, Tells, Told, toldStrides, aloneStrides, Sequences}
+
+-- ── the requests behind calls ──
+
+-- the request that a call puts to the satellite; none where the room for a state is too short
+abbrev asks : Call → List D.Request
+asks (One t state r state′) = cond (ltb (length state) 6) [] (D.One t ∷ [])
+asks (Many ts a b c r a′ b′ c′) = D.Many ts (length a) (length b) (length c) ∷ []
+
+abbrev requestsOf : List Call → List D.Request
+requestsOf [] = []
+requestsOf (c ∷ cs) = asks c ++ requestsOf cs
+
+-- the satellite that requests give back in the end
+abbrev after : Satellite → List D.Request → Satellite
+after s [] = s
+after s (r ∷ rs) = after (D.outcome s r .satellite) rs
+
+-- a call answers what the request gives for the satellite s that lies in memory
+abbrev Gives : Satellite → Call → Type 0
+Gives s (One t state r state′) =
+    let x = answered s t in
+    let short = ltb (length state) 6 in
+    (r ≡ cond short (answer 17 0 0 0) (answer (x .row .refusal) (x .row .rounds) 0 (x .strides .0))) × (state′ ≡ cond short state (rowPut (x .row) state))
+Gives s (Many ts a b c r a′ b′ c′) =
+    let o = D.outcome s (D.Many ts (length a) (length b) (length c)) in
+    (r ≡ answer (listRefusal (length ts) (length a) (length b) (length c)) 0 0 (o .strides))
+    × ((a′ ≡ over (refusalsOf (o .rows)) a) × ((b′ ≡ over (statesOf (o .rows)) b) × (c′ ≡ over (roundsOf (o .rows)) c)))
+
+-- every call, the first for s, each later one for what the last request gave back
+abbrev Given : Satellite → List Call → Type 0
+Given s [] = Unit {0}
+Given s (c ∷ cs) = Gives s c × Given (after s (asks c)) cs
 
 absurd : {B : Type 0} → ⊥ → B
 absurd = elim [ ]
@@ -108,7 +144,7 @@ list-number p q n a b c e = rw e (same-number (ltb 1024 n) _)
 
 -- ── every call ──
 
-step : (c : Call) (m n : Memory) (s : Satellite) → Holds (m .numbers) (m .marks) s → Does m c n → Holds (n .numbers) (n .marks) (after s (asks c)) × Tells s c
+step : (c : Call) (m n : Memory) (s : Satellite) → Holds (m .numbers) (m .marks) s → Does m c n → Holds (n .numbers) (n .marks) (after s (asks c)) × Gives s c
 unfolding requestShort
 step (One t state r state′) m n s h d =
     let b = ltb (length state) 6 in
@@ -125,12 +161,115 @@ after-append s [] ys = refl
 after-append s (x ∷ xs) ys = after-append (D.outcome s x .satellite) xs ys
 
 steps : (cs : List Call) (m last : Memory) (s : Satellite) → Holds (m .numbers) (m .marks) s → Calls m cs last
-    → Told s cs × (satelliteOf (last .numbers) (last .marks) ≡ after s (requestsOf cs))
+    → Given s cs × (satelliteOf (last .numbers) (last .marks) ≡ after s (requestsOf cs))
 steps [] m last s h d = (tt, ap (λ z. satelliteOf (z .numbers) (z .marks)) (sym d) ∙ h .held)
 steps (c ∷ cs) m last s h d =
     let x = step c m (d .0) s h (d .1) in
     let y = steps cs (d .0) last (after s (asks c)) (x .0) (d .2) in
     ((x .1, y .0), y .1 ∙ sym (after-append s (asks c) (requestsOf cs)))
+
+-- ── demand 3 of what is told ──
+
+abbrev headOr : {A : Type 0} → A → List A → A
+headOr d [] = d
+headOr d (x ∷ xs) = x
+
+abbrev tailOf : {A : Type 0} → List A → List A
+tailOf [] = []
+tailOf (x ∷ xs) = xs
+
+-- s₀ newly opened, s as it lies in memory
+module _ (s₀ : Satellite) where
+  abbrev i : Integrator
+  i = integratorOf (s₀ .model)
+
+  abbrev rowsAlone : List D.Request → List (List Row)
+  rowsAlone rs = map (λ r. map (D.rowAlone s₀) (D.rowTimes r)) rs
+
+  abbrev runRows : Satellite → List D.Request → List (List Row)
+  runRows s rs = map (λ o. o .rows) (D.run s rs)
+
+  one-told : (b : Bool) (t : ℤ) (state : List Float) (r : ℕ) (state′ : List Float) (s : Satellite) (l : D.Last) (rs : List D.Request)
+      → (r ≡ cond b (answer 17 0 0 0) (answer (answered s t .row .refusal) (answered s t .row .rounds) 0 (answered s t .strides .0))) × (state′ ≡ cond b state (rowPut (answered s t .row) state))
+      → runRows s (cond b [] (D.One t ∷ []) ++ rs) ≡ rowsAlone (cond b [] (D.One t ∷ []) ++ rs) → D.reported s (cond b [] (D.One t ∷ []) ++ rs) ≡ D.counted i l (cond b [] (D.One t ∷ []) ++ rs)
+      → ((r ≡ cond b (answer 17 0 0 0) (answer (D.rowAlone s₀ t .refusal) (D.rowAlone s₀ t .rounds) 0 (D.countsOf i l (t ∷ [])))) × (state′ ≡ cond b state (rowPut (D.rowAlone s₀ t) state)))
+      × ((runRows (after s (cond b [] (D.One t ∷ []))) rs ≡ rowsAlone rs) × (D.reported (after s (cond b [] (D.One t ∷ []))) rs ≡ D.counted i (D.lastsOf l (cond b [] (t ∷ []))) rs))
+  one-told true t state r state′ s l rs g e c = (g, (e, c))
+  one-told false t state r state′ s l rs g e c =
+      let x = answered s t in
+      let row : x .row ≡ D.rowAlone s₀ t = ap (λ z. headOr (x .row) (headOr [] z)) e in
+      let n : x .strides .0 ≡ D.countsOf i l (t ∷ []) = ap (headOr 0) c in (
+        (
+          g .0 ∙ ap (λ z. answer (z .refusal) (z .rounds) 0 (x .strides .0)) row ∙ ap (λ k. answer (D.rowAlone s₀ t .refusal) (D.rowAlone s₀ t .rounds) 0 k) n,
+          g .1 ∙ ap (λ z. rowPut z state) row,
+        ),
+        (ap tailOf e, ap tailOf c),
+      )
+
+  told-of : (cs : List Call) (s : Satellite) (l : D.Last) → Given s cs → runRows s (requestsOf cs) ≡ rowsAlone (requestsOf cs) → D.reported s (requestsOf cs) ≡ D.counted i l (requestsOf cs) → Told s₀ l cs
+  told-of [] s l g e c = tt
+  told-of (One t state r state′ ∷ cs) s l g e c =
+      let x = one-told (ltb (length state) 6) t state r state′ s l (requestsOf cs) (g .0) e c in
+      (x .0, told-of cs (after s (asks (One t state r state′))) (D.lastsOf l (callTimes (One t state r state′))) (g .1) (x .1 .0) (x .1 .1))
+  told-of (Many ts a b c r a′ b′ c′ ∷ cs) s l g e k =
+      let us = listTimes ts (length a) (length b) (length c) in
+      let rows : rowsFrom s us ≡ map (D.rowAlone s₀) us = ap (headOr []) e in
+      let n = ap (headOr 0) k in
+      let f = g .0 in (
+        (
+          f .0 ∙ ap (answer (listRefusal (length ts) (length a) (length b) (length c)) 0 0) n,
+          (f .1 .0 ∙ ap (λ z. over (refusalsOf z) a) rows, (f .1 .1 .0 ∙ ap (λ z. over (statesOf z) b) rows, f .1 .1 .1 ∙ ap (λ z. over (roundsOf z) c) rows)),
+        ),
+        told-of cs (D.outcome s (D.Many ts (length a) (length b) (length c)) .satellite) (D.lastsOf l us) (g .1) (ap tailOf e) (ap tailOf k),
+      )
+
+  -- the times, the counts and the strides of opening anew, by calls as by requests: a call that puts no request has no time and counts 0
+  times-by : (b : Bool) (t : ℤ) (xs : List ℤ) (rs : List D.Request) → D.times rs ≡ xs → D.times (cond b [] (D.One t ∷ []) ++ rs) ≡ cond b [] (t ∷ []) ++ xs
+  times-by true t xs rs e = e
+  times-by false t xs rs e = ap (λ l. t ∷ l) e
+
+  times-same : (cs : List Call) → D.times (requestsOf cs) ≡ timesOf cs
+  times-same [] = refl
+  times-same (One t state r state′ ∷ cs) = times-by (ltb (length state) 6) t (timesOf cs) (requestsOf cs) (times-same cs)
+  times-same (Many ts a b c r a′ b′ c′ ∷ cs) = ap (λ l. listTimes ts (length a) (length b) (length c) ++ l) (times-same cs)
+
+  sum-by : (b : Bool) (t : ℤ) (l : D.Last) (rs : List D.Request) (n : ℕ) → D.sum (D.counted i (D.lastsOf l (cond b [] (t ∷ []))) rs) ≡ n
+      → D.sum (D.counted i l (cond b [] (D.One t ∷ []) ++ rs)) ≡ D.countsOf i l (cond b [] (t ∷ [])) + n
+  sum-by true t l rs n e = omega (arith, e)
+  sum-by false t l rs n e = ap (λ k. D.countsOf i l (t ∷ []) + k) e
+
+  sum-same : (cs : List Call) (l : D.Last) → D.sum (D.counted i l (requestsOf cs)) ≡ D.sum (toldStrides s₀ l cs)
+  sum-same [] l = refl
+  sum-same (One t state r state′ ∷ cs) l =
+      let b = ltb (length state) 6 in
+      sum-by b t l (requestsOf cs) (D.sum (toldStrides s₀ (D.lastsOf l (cond b [] (t ∷ []))) cs)) (sum-same cs (D.lastsOf l (cond b [] (t ∷ []))))
+  sum-same (Many ts a b c r a′ b′ c′ ∷ cs) l =
+      let us = listTimes ts (length a) (length b) (length c) in
+      ap (λ k. D.countsOf i l us + k) (sum-same cs (D.lastsOf l us))
+
+  abbrev alone : List D.Request → List ℕ
+  alone rs = map (λ r. D.sum (map (D.stridesAlone s₀) (D.ranged (D.rowTimes r)))) rs
+
+  less-by : (b : Bool) (t : ℤ) (l : D.Last) (rs : List D.Request) (xs ys : List ℕ) → (D.NoMore (D.counted i (D.lastsOf l (cond b [] (t ∷ []))) rs) (alone rs) → D.NoMore xs ys)
+      → D.NoMore (D.counted i l (cond b [] (D.One t ∷ []) ++ rs)) (alone (cond b [] (D.One t ∷ []) ++ rs))
+      → D.NoMore (D.countsOf i l (cond b [] (t ∷ [])) ∷ xs) (D.sum (map (D.stridesAlone s₀) (D.ranged (cond b [] (t ∷ [])))) ∷ ys)
+  less-by true t l rs xs ys f h = (omega arith, f h)
+  less-by false t l rs xs ys f h = (h .0, f (h .1))
+
+  less-same : (cs : List Call) (l : D.Last) → D.NoMore (D.counted i l (requestsOf cs)) (alone (requestsOf cs)) → D.NoMore (toldStrides s₀ l cs) (aloneStrides s₀ cs)
+  less-same [] l h = tt
+  less-same (One t state r state′ ∷ cs) l h =
+      let b = ltb (length state) 6 in
+      less-by b t l (requestsOf cs) (toldStrides s₀ (D.lastsOf l (cond b [] (t ∷ []))) cs) (aloneStrides s₀ cs) (less-same cs (D.lastsOf l (cond b [] (t ∷ [])))) h
+  less-same (Many ts a b c r a′ b′ c′ ∷ cs) l h = (h .0, less-same cs (D.lastsOf l (listTimes ts (length a) (length b) (length c))) (h .1))
+
+-- requests change nothing but the saved position
+model-after : (rs : List D.Request) (s : Satellite) → after s rs .model ≡ s .model
+model-after [] s = refl
+model-after (D.One t ∷ rs) s = model-after rs (answered s t .satellite)
+model-after (D.Many ts a b c ∷ rs) s =
+    let us = listTimes ts a b c in
+    model-after rs (satelliteFrom s us) ∙ sym (model-same s us)
 
 -- ── opening ──
 
@@ -166,4 +305,15 @@ sequences line1 line2 m cs last e d =
     let s = x .0 in
     let y = steps cs (openedIn line1 line2 m) last s (x .2) d in
     let r = made-of line1 line2 s (x .1) in
-    record { satellite = s; opens = x .1; told = y .0; held = y .1; demand = demand-3 line1 line2 (r .source) s (r .reads) (r .opens) (requestsOf cs) }
+    let rs = requestsOf cs in
+    let p = demand-3 line1 line2 (r .source) s (r .reads) (r .opens) rs in
+    let ts = times-same s cs in
+    record {
+      satellite = s;
+      opens = x .1;
+      told = told-of s cs s D.none (y .0) (p .rows) (p .counts);
+      outward = λ side o.
+          sym (ap D.sum (p .counts) ∙ sum-same s cs D.none) ∙ p .outward side (rw ts o) ∙ ap (λ l. wholeStrides (integratorOf (s .model)) (D.farthest (D.ranged l))) ts;
+      noMore = less-same s cs D.none (rw (← p .counts) (p .noMore));
+      kept = ap (λ z. z .model) (y .1) ∙ model-after rs s;
+    }

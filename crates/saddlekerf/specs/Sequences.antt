@@ -1,9 +1,9 @@
--- Whole sequences of calls on lent memory: what is asked of the memory is what is asked of the satellite, so that demand 3 (specs/Demand3 of `requests`) holds of it. Definitions only.
+-- Whole sequences of calls on lent memory: demand 3 (specs/Demand3 of `requests`) of what the calls answer and leave. Definitions only.
 -- The theorem is `sequences` of proofs/Sequences.
 use Prim.Native.Nat.{ℕ}
 use mathlib.Core.Path.{_≡_}
 use mathlib.Core.Bool.{cond}
-use mathlib.Core.List.{List, [], _∷_, _++_}
+use mathlib.Core.List.{List, [], _∷_, _++_, map}
 use lib.Dec.{ltb}
 use lib.IntN.{ℤ}
 use lib.ListN.{length}
@@ -11,8 +11,10 @@ use lib.Ieee.{Float}
 use Rattle.opening.specs.declared.opening.Satellite.{Satellite}
 use Rattle.opening.specs.declared.opening.PairOpening.the-variants as pair
 use Rattle.opening.specs.Opening.{openPairOf}
-use Rattle.requests.specs.Request.{answered}
-use Rattle.requests.specs.Lists.{listRefusal, refusalsOf, statesOf, roundsOf, over}
+use Rattle.resonance.specs.declared.place.Side.{Side}
+use Rattle.resonance.specs.Time.{wholeStrides}
+use Rattle.sgp4.specs.Sgp4.{integratorOf}
+use Rattle.requests.specs.Lists.{listRefusal, listTimes, refusalsOf, statesOf, roundsOf, over}
 use Rattle.requests.specs.Demand3 as D
 use Rattle.storage.specs.Storage.{satelliteOf}
 use Rattle.saddlekerf.specs.Answer.{answer}
@@ -45,47 +47,58 @@ abbrev pub Calls : Memory → List Call → Memory → Type 0
 Calls m [] last = m ≡ last
 Calls m (c ∷ cs) last = (n : Memory) × Does m c n × Calls n cs last
 
--- the request that a call puts to the satellite; none where the room for a state is too short
-abbrev pub asks : Call → List D.Request
-asks (One t state r state′) = cond (ltb (length state) 6) [] (D.One t ∷ [])
-asks (Many ts a b c r a′ b′ c′) = D.Many ts (length a) (length b) (length c) ∷ []
+-- the times of a call's rows; none where a room is too short, or the list too long
+abbrev pub callTimes : Call → List ℤ
+callTimes (One t state r state′) = cond (ltb (length state) 6) [] (t ∷ [])
+callTimes (Many ts a b c r a′ b′ c′) = listTimes ts (length a) (length b) (length c)
 
-abbrev pub requestsOf : List Call → List D.Request
-requestsOf [] = []
-requestsOf (c ∷ cs) = asks c ++ requestsOf cs
+abbrev pub timesOf : List Call → List ℤ
+timesOf [] = []
+timesOf (c ∷ cs) = callTimes c ++ timesOf cs
 
--- the satellite that requests give back in the end
-abbrev pub after : Satellite → List D.Request → Satellite
-after s [] = s
-after s (r ∷ rs) = after (D.outcome s r .satellite) rs
+-- ── what the calls tell: s is the satellite newly opened, l the last time in range before the call ──
 
--- a call tells what the request gives for the satellite s
-abbrev pub Tells : Satellite → Call → Type 0
-Tells s (One t state r state′) =
-    let x = answered s t in
+-- the rows are those of s asked only those times; the strides are demand 3's count of those times
+abbrev pub Tells : Satellite → D.Last → Call → Type 0
+Tells s l (One t state r state′) =
+    let row = D.rowAlone s t in
     let short = ltb (length state) 6 in
-    (r ≡ cond short (answer 17 0 0 0) (answer (x .row .refusal) (x .row .rounds) 0 (x .strides .0))) × (state′ ≡ cond short state (rowPut (x .row) state))
-Tells s (Many ts a b c r a′ b′ c′) =
-    let o = D.outcome s (D.Many ts (length a) (length b) (length c)) in
-    (r ≡ answer (listRefusal (length ts) (length a) (length b) (length c)) 0 0 (o .strides))
-    × ((a′ ≡ over (refusalsOf (o .rows)) a) × ((b′ ≡ over (statesOf (o .rows)) b) × (c′ ≡ over (roundsOf (o .rows)) c)))
+    (r ≡ cond short (answer 17 0 0 0) (answer (row .refusal) (row .rounds) 0 (D.countsOf (integratorOf (s .model)) l (t ∷ []))))
+    × (state′ ≡ cond short state (rowPut row state))
+Tells s l (Many ts a b c r a′ b′ c′) =
+    let us = listTimes ts (length a) (length b) (length c) in
+    let rows = map (D.rowAlone s) us in
+    (r ≡ answer (listRefusal (length ts) (length a) (length b) (length c)) 0 0 (D.countsOf (integratorOf (s .model)) l us))
+    × ((a′ ≡ over (refusalsOf rows) a) × ((b′ ≡ over (statesOf rows) b) × (c′ ≡ over (roundsOf rows) c)))
 
--- every call, the first for s, each later one for what the last request gave back
-abbrev pub Told : Satellite → List Call → Type 0
-Told s [] = Unit {0}
-Told s (c ∷ cs) = Tells s c × Told (after s (asks c)) cs
+abbrev pub Told : Satellite → D.Last → List Call → Type 0
+Told s l [] = Unit {0}
+Told s l (c ∷ cs) = Tells s l c × Told s (D.lastsOf l (callTimes c)) cs
 
--- Of two lines that opened into memory, and calls on that memory:
+-- for each call, the strides that it tells
+abbrev pub toldStrides : Satellite → D.Last → List Call → List ℕ
+toldStrides s l [] = []
+toldStrides s l (c ∷ cs) = D.countsOf (integratorOf (s .model)) l (callTimes c) ∷ toldStrides s (D.lastsOf l (callTimes c)) cs
+
+-- for each call, the strides of opening anew for each of its times in range
+abbrev pub aloneStrides : Satellite → List Call → List ℕ
+aloneStrides s cs = map (λ c. D.sum (map (D.stridesAlone s) (D.ranged (callTimes c)))) cs
+
+-- ── the claim ──
+
+-- Of two lines that opened into memory, and any calls on that memory:
 --   opens     the lines open to a satellite
---   told      every call tells what `requests` gives for that satellite, asked the same requests in the same order
---   held      the memory holds the satellite that they give back
---   demand    demand 3 of those requests
+--   told      every call's answer and rooms are those of that satellite newly opened and asked only those times, its strides demand 3's count
+--   outward   where the times in range are one-sided and outward, the strides told are together the whole strides to the farthest
+--   noMore    no call tells more strides than opening anew for each of its times in range would
+--   kept      of the satellite in memory nothing but the saved position has changed
 pub record Sequence (line1 line2 : List ℕ) (cs : List Call) (last : Memory) : Type 0 where
   pub satellite : Satellite
   pub opens : openPairOf line1 line2 ≡ pair.Opened satellite
-  pub told : Told satellite cs
-  pub held : satelliteOf (last .numbers) (last .marks) ≡ after satellite (requestsOf cs)
-  pub demand : D.Demand3 satellite (requestsOf cs)
+  pub told : Told satellite D.none cs
+  pub outward : (d : Side) → D.Outward d 0 (D.ranged (timesOf cs)) → D.sum (toldStrides satellite D.none cs) ≡ wholeStrides (integratorOf (satellite .model)) (D.farthest (D.ranged (timesOf cs)))
+  pub noMore : D.NoMore (toldStrides satellite D.none cs) (aloneStrides satellite cs)
+  pub kept : satelliteOf (last .numbers) (last .marks) .model ≡ satellite .model
 
 -- wherever `saddlekerf_open` answered 0
 abbrev pub Sequences : Type 0

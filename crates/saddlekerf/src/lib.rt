@@ -11,13 +11,19 @@ ghost use Rattle.opening.specs.Opening.{openPairOf};
 ghost use Rattle.opening.specs.Opening as O;
 ghost use Rattle.saddlekerf.specs.Answer.{answer, fieldNumber, refusalAnswer, readingAnswer, ColumnFits};
 ghost use Rattle.saddlekerf.specs.Pairs as P;
+ghost use Rattle.saddlekerf.specs.Records as C;
 ghost use Rattle.saddlekerf.specs.Requests as R;
+ghost use Rattle.saddlekerf.specs.Version.{version, boundary};
+ghost use Rattle.record_numbers.specs.Numbers.{givenOf};
 use instant::Epoch;
 use instant::Microseconds;
 use listing::Printed;
 use listing::print_pair;
 use opening::opening::PairOpening;
 use opening::opening::open_pair;
+use record_numbers::Given;
+use record_numbers::record_of;
+use record_numbers::store_record;
 use requests::Answered;
 use requests::ListAnswer;
 use requests::request;
@@ -31,9 +37,28 @@ use storage::store_place;
 use tle::Field;
 use tle::Line;
 use tle::Reading;
+use tle::Record;
 use tle::Refusal;
 use tle::epoch;
 use tle::read;
+use tle_writer::fill_line;
+
+// The version of the library, as one number.
+#[no_mangle]
+pub extern "C" fn saddlekerf_version() -> u64
+    ensures { λ r. ⌜ r ≡ version ⌝ }
+{
+    200
+}
+
+// The number of this boundary, which stands in the name too: a header of another boundary refers to
+// another name and does not link.
+#[no_mangle]
+pub extern "C" fn saddlekerf_abi_1() -> u64
+    ensures { λ r. ⌜ r ≡ boundary ⌝ }
+{
+    1
+}
 
 // The parts of an answer, put together.
 fn answer(refusal: u8, detail: u8, place: u16, count: u32) -> u64
@@ -124,6 +149,55 @@ pub extern "C" fn saddlekerf_epoch(line1: &[u8], line2: &[u8], micros: &mut u64)
     match read(line1, line2) {
         Reading::Record(r) => put_instant(epoch(r), micros),
         Reading::Refused(why) => refusal_answer(why),
+    }
+}
+
+// The record of a pair, as 22 whole numbers at the front of `fields` (crate record_numbers).
+#[no_mangle]
+pub extern "C" fn saddlekerf_record(line1: &[u8], line2: &[u8], fields: &mut [i64]) -> u64
+    ensures { λ r. ⌜ r ≡ C.recordAnswer (readOf (now (line1 .entry)) (now (line2 .entry))) (length (now (fields .entry))) ⌝ }
+    ensures { λ _. ⌜ now (fields .exit) ≡ C.recordFields (readOf (now (line1 .entry)) (now (line2 .entry))) (now (fields .entry)) ⌝ }
+{
+    match read(line1, line2) {
+        Reading::Record(r) => answer(store_record(r, fields), 0, 0, 0),
+        Reading::Refused(why) => refusal_answer(why),
+    }
+}
+
+// One of a record's two lines, by its number, at the front of `out`: 0, or the refusal.
+fn put_line(r: Record, line: u32, out: &mut [u8]) -> u8
+    ensures { λ k. ⌜ k ≡ C.lineRefusal r line (now (out .entry)) ⌝ }
+    ensures { λ _. ⌜ now (out .exit) ≡ C.lineOver r line (now (out .entry)) ⌝ }
+{
+    if line == 1 {
+        return fill_line(r, Line::One, out).number();
+    }
+    if line == 2 {
+        return fill_line(r, Line::Two, out).number();
+    }
+    16
+}
+
+// A line written, 69 bytes, or its refusal.
+fn line_answer(refusal: u8) -> u64
+    ensures { λ r. ⌜ r ≡ C.lineAnswer refusal ⌝ }
+{
+    if refusal == 0 {
+        return answer(0, 0, 0, 69);
+    }
+    answer(refusal, 0, 0, 0)
+}
+
+// Line 1 or 2 of the record whose numbers are at the front of `fields`, at the front of `out`.
+#[no_mangle]
+pub extern "C" fn saddlekerf_write(fields: &[i64], line: u32, out: &mut [u8]) -> u64
+    ensures { λ r. ⌜ r ≡ C.writeAnswer (givenOf (now (fields .entry))) line (now (out .entry)) ⌝ }
+    ensures { λ _. ⌜ now (out .exit) ≡ C.writeOut (givenOf (now (fields .entry))) line (now (out .entry)) ⌝ }
+{
+    match record_of(fields) {
+        Given::Fields(r) => line_answer(put_line(r, line, out)),
+        Given::NoClass => answer(16, 0, 0, 0),
+        Given::TooShort => answer(17, 0, 0, 0),
     }
 }
 

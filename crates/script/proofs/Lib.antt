@@ -2,3 +2,4 @@
 mod Rooms
 mod Running
 mod Posts
+pub mod Numbers

@@ -2,7 +2,7 @@
 use mathlib.Core.Path.{_≡_, refl, sym, ap, _∙_, subst}
 use mathlib.Core.Bool.{Bool, true, false, _&&_}
 use mathlib.Core.List.{List, [], _∷_, _++_, map}
-use Prim.Native.Nat.{ℕ, zero, suc, _*_, _/_, _≤_}
+use Prim.Native.Nat.{ℕ, suc, _/_, _≤_}
 use native.Mathlib.Omega.{arith}
 use lib.ListN.{length, take, drop}
 use lib.Seq.{take-append-seam}
@@ -20,8 +20,8 @@ use Rattle.requests.specs.Lists.{refusalsOf, statesOf, roundsOf, over}
 use Rattle.requests.specs.Demand3.{Request, Outcome, outcome, rowTimes, run, times, sum, reported, ranged, rowAlone, stridesAlone, NoMore, Demand3}
 use Rattle.requests.proofs.Demand3.{demand-3}
 use Rattle.script.specs.declared.Ran.{Ran}
-use Rattle.script.specs.declared.Ran.the-variants.{Done, Short, Closed}
-use Rattle.script.specs.Script.{needed, script, roomFor, rowsOf, Left, Demanded, ranOf, Post}
+use Rattle.script.specs.declared.Ran.the-variants.{Done, Short, Unread, Refused}
+use Rattle.script.specs.Script.{needed, script, roomy, roomFor, rowsOf, Left, Demanded, ranOf, Post}
 
 absurd : {B : Type 0} → ⊥ → B
 absurd = elim [ ]
@@ -29,9 +29,6 @@ absurd = elim [ ]
 abbrev No : Bool → Type 0
 No false = Unit {0}
 No true = ⊥
-
-sixfold : (n m : ℕ) → n ≤ m / 6 → 6 * n ≤ m
-sixfold n m h = omega arith
 
 -- ── demand 3 ──
 
@@ -71,12 +68,13 @@ demanded s rs a b c d a′ b′ c′ d′ p l =
       noMore = subst (λ z. NoMore z (map (λ r. sum (map (stridesAlone s) (ranged (rowTimes r)))) rs)) (sym front) (p .noMore);
     }
 
--- ── the three answers ──
+-- ── the answers ──
 
 abbrev NotDone : Ran → Type 0
 NotDone Done = ⊥
 NotDone Short = Unit {0}
-NotDone Closed = Unit {0}
+NotDone (Unread why) = Unit {0}
+NotDone (Refused why) = Unit {0}
 
 abbrev satelliteOr : Satellite → PairOpening → Satellite
 satelliteOr s (pair.Opened t) = t
@@ -108,8 +106,8 @@ module _ (line1 line2 : List ℕ) (ns : List ℕ) (ts : List ℤ) (a : List ℕ)
   answer-of : (r : Ran) (o : PairOpening) → r ≡ ranOf true o → Room ≡ true → openPairOf line1 line2 ≡ o → r ≡ ranOf Room (openPairOf line1 line2)
   answer-of r o h e k = h ∙ ap (ranOf true) (sym k) ∙ ap (λ z. ranOf z (openPairOf line1 line2)) (sym e)
 
-  pub post-closed : (o : PairOpening) → Room ≡ true → openPairOf line1 line2 ≡ o → Closed ≡ ranOf true o → Post line1 line2 ns ts a b c d Closed a b c d
-  post-closed o e k h = unrun-post Closed tt (answer-of Closed o h e k)
+  pub post-closed : (r : Ran) (o : PairOpening) → NotDone r → Room ≡ true → openPairOf line1 line2 ≡ o → r ≡ ranOf true o → Post line1 line2 ns ts a b c d r a b c d
+  post-closed r o n e k h = unrun-post r n (answer-of r o h e k)
 
   pub post-done : (s : Satellite) (a′ : List ℕ) (b′ : List Float) (c′ : List ℕ) (d′ : List ℕ) → Room ≡ true → openPairOf line1 line2 ≡ pair.Opened s
       → Left s (script ns ts (length a) (length b) (length c)) a b c d a′ b′ c′ d′ → Post line1 line2 ns ts a b c d Done a′ b′ c′ d′
@@ -131,24 +129,24 @@ module _ (line1 line2 : List ℕ) (ns : List ℕ) (ts : List ℤ) (a : List ℕ)
   and-right true q h = h
   and-right false q h = absurd (subst No h tt)
 
-  pub enough : Room ≡ true → (needed ns ≤ length ts) × ((needed ns ≤ length a) × ((6 * needed ns ≤ length b) × ((needed ns ≤ length c) × (length ns ≤ length d))))
+  pub enough : Room ≡ true → (needed ns ≤ length ts) × ((roomy ns (length a) ≡ true) × ((roomy ns (length b / 6) ≡ true) × ((roomy ns (length c) ≡ true) × (length ns ≤ length d))))
   unfolding roomFor
   enough e =
       let n = needed ns in
       let p1 = leb n (length ts) in
-      let p2 = leb n (length a) in
-      let p3 = leb n (length b / 6) in
-      let p4 = leb n (length c) in
+      let p2 = roomy ns (length a) in
+      let p3 = roomy ns (length b / 6) in
+      let p4 = roomy ns (length c) in
       let p5 = leb (length ns) (length d) in
       let e4 : p1 && p2 && p3 && p4 ≡ true = and-left (p1 && p2 && p3 && p4) p5 e in
       let e3 : p1 && p2 && p3 ≡ true = and-left (p1 && p2 && p3) p4 e4 in
       let e2 : p1 && p2 ≡ true = and-left (p1 && p2) p3 e3 in (
         leb-true n (length ts) (and-left p1 p2 e2),
         (
-          leb-true n (length a) (and-right p1 p2 e2),
+          and-right p1 p2 e2,
           (
-            sixfold n (length b) (leb-true n (length b / 6) (and-right (p1 && p2) p3 e3)),
-            (leb-true n (length c) (and-right (p1 && p2 && p3) p4 e4), leb-true (length ns) (length d) (and-right (p1 && p2 && p3 && p4) p5 e)),
+            and-right (p1 && p2) p3 e3,
+            (and-right (p1 && p2 && p3) p4 e4, leb-true (length ns) (length d) (and-right (p1 && p2 && p3 && p4) p5 e)),
           ),
         ),
       )

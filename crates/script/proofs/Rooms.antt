@@ -5,10 +5,10 @@ use Prim.Native.Nat.{ℕ, zero, suc, _+_, _-_, _*_, _/_, _≤_, _<_}
 use native.Mathlib.Numerals.{add-one}
 use native.Mathlib.Omega.{arith}
 use lib.ListN.{length, take, drop, set, getD, take-append-drop, length-drop}
-use lib.Seq.{set-split, sets, sets-eq, drop-drop, drop-length, take-all, take-suc, take-length}
-use lib.Dec.{leb}
-use mathlib.Core.Bool.{Bool, true, false, not}
-use borrow.Author.Tests.{le-leb, lt-leb, ne-eqb, eq-eqb}
+use lib.Seq.{set-split, sets, sets-eq, drop-drop, drop-cons, drop-length, take-all, take-suc, take-length}
+use lib.Dec.{eqb, leb, ltb}
+use mathlib.Core.Bool.{Bool, true, false, not, cond, _&&_}
+use borrow.Author.Tests.{le-leb, lt-leb, lt-ltb, ltb-true, ltb-false, ne-eqb, eq-eqb, eqb-true}
 use borrow.Rule.Slice.PartMut.{midOf, postOf, putMid, post-is}
 use lib.IntN.{ℤ}
 use lib.Ieee.{Float}
@@ -19,7 +19,7 @@ use Rattle.requests.specs.declared.ListAnswer.{ListAnswer}
 use Rattle.requests.specs.Request.{answered}
 use Rattle.requests.specs.Lists.{stateOf, statesOf, refusalsOf, roundsOf, rowsFrom, listRefusal, listTimes, listed, ListPost, over}
 use Rattle.requests.specs.Demand3.{One, Many, rowTimes}
-use Rattle.script.specs.Script.{taken, needed, roomFor, Step}
+use Rattle.script.specs.Script.{taken, needed, requestOf, roomy, roomFor, due, Step}
 
 module _ {A : Type 0} where
   pub set-part : (l : List A) (n : ℕ) (v : A) → n < length l → set l n v ≡ take n l ++ over (v ∷ []) (drop n l)
@@ -148,18 +148,101 @@ pub short-1 : (ns : List ℕ) (t a b c d : ℕ) → leb (needed ns) t ≡ false 
 unfolding roomFor
 short-1 ns t a b c d e = rw e
 
-pub short-2 : (ns : List ℕ) (t a b c d : ℕ) → leb (needed ns) t ≡ true → leb (needed ns) a ≡ false → false ≡ roomFor ns t a b c d
+pub short-2 : (ns : List ℕ) (t a b c d : ℕ) → leb (needed ns) t ≡ true → roomy ns a ≡ false → false ≡ roomFor ns t a b c d
 unfolding roomFor
 short-2 ns t a b c d e1 e = rw (e1, e)
 
-pub short-3 : (ns : List ℕ) (t a b c d : ℕ) → leb (needed ns) t ≡ true → leb (needed ns) a ≡ true → leb (needed ns) (b / 6) ≡ false → false ≡ roomFor ns t a b c d
+pub short-3 : (ns : List ℕ) (t a b c d : ℕ) → leb (needed ns) t ≡ true → roomy ns a ≡ true → roomy ns (b / 6) ≡ false → false ≡ roomFor ns t a b c d
 unfolding roomFor
 short-3 ns t a b c d e1 e2 e = rw (e1, e2, e)
 
-pub short-4 : (ns : List ℕ) (t a b c d : ℕ) → leb (needed ns) t ≡ true → leb (needed ns) a ≡ true → leb (needed ns) (b / 6) ≡ true → leb (needed ns) c ≡ false → false ≡ roomFor ns t a b c d
+pub short-4 : (ns : List ℕ) (t a b c d : ℕ) → leb (needed ns) t ≡ true → roomy ns a ≡ true → roomy ns (b / 6) ≡ true → roomy ns c ≡ false → false ≡ roomFor ns t a b c d
 unfolding roomFor
 short-4 ns t a b c d e1 e2 e3 e = rw (e1, e2, e3, e)
 
-pub short-5 : (ns : List ℕ) (t a b c d : ℕ) → leb (needed ns) t ≡ true → leb (needed ns) a ≡ true → leb (needed ns) (b / 6) ≡ true → leb (needed ns) c ≡ true → leb (length ns) d ≡ roomFor ns t a b c d
+pub short-5 : (ns : List ℕ) (t a b c d : ℕ) → leb (needed ns) t ≡ true → roomy ns a ≡ true → roomy ns (b / 6) ≡ true → roomy ns c ≡ true → leb (length ns) d ≡ roomFor ns t a b c d
 unfolding roomFor
 short-5 ns t a b c d e1 e2 e3 e4 = rw (e1, e2, e3, e4)
+
+-- ── whether the single requests have room ──
+
+and-left : (p q : Bool) → p && q ≡ true → p ≡ true
+and-left true q h = refl
+and-left false q h = h
+
+and-right : (p q : Bool) → p && q ≡ true → q ≡ true
+and-right true q h = h
+and-right false q h = let z : _≡_ {A = ℕ} 0 1 = cc in absurd (omega arith)
+
+-- a request that is next: one with no room left, or any with room for what is due
+pub roomy-not : (n : ℕ) (ns : List ℕ) (room : ℕ) → n ≡ 0 → room ≡ 0 → roomy (n ∷ ns) room ≡ false
+unfolding roomy
+roomy-not n ns room e h = rw (e, h)
+
+roomy-next : (n : ℕ) (ns : List ℕ) (room : ℕ) → (n ≡ 0 → room ≡ 0 → ⊥) → roomy (n ∷ ns) room ≡ roomy ns (room - taken n)
+unfolding roomy taken
+roomy-next zero ns zero h = absurd (h refl refl)
+roomy-next zero ns (suc room) h = rw (lt-ltb 0 (suc room) (omega arith))
+roomy-next (suc n) ns room h = refl
+
+not-both : (n left : ℕ) → eqb n 0 && eqb left 0 ≡ false → n ≡ 0 → left ≡ 0 → ⊥
+not-both n left e p q = let z : true && true ≡ false = rw (eq-eqb n 0 p, eq-eqb left 0 q) at e in let x : _≡_ {A = ℕ} 0 1 = cc in omega arith
+
+pub roomy-step : (ns : List ℕ) (i d room left m : ℕ) → i < length ns → roomy ns room ≡ roomy (drop i ns) left → m ≡ taken (getD ns i d) → eqb (getD ns i d) 0 && eqb left 0 ≡ false
+    → roomy ns room ≡ roomy (drop (i + 1) ns) (left - m)
+roomy-step ns i d room left m h e hm n =
+    e ∙ ap (λ l. roomy l left) (drop-cons ns i d h) ∙ roomy-next (getD ns i d) (drop (suc i) ns) left (not-both (getD ns i d) left n)
+    ∙ ap (λ k. roomy (drop (suc i) ns) (left - k)) (sym hm) ∙ ap (λ k. roomy (drop k ns) (left - m)) (sym (add-one i))
+
+pub roomy-fails : (ns : List ℕ) (i d room left : ℕ) → i < length ns → roomy ns room ≡ roomy (drop i ns) left → eqb (getD ns i d) 0 && eqb left 0 ≡ true → false ≡ roomy ns room
+roomy-fails ns i d room left h e t =
+    let n = eqb-true (getD ns i d) 0 (and-left (eqb (getD ns i d) 0) (eqb left 0) t) in
+    let z = eqb-true left 0 (and-right (eqb (getD ns i d) 0) (eqb left 0) t) in
+    sym (e ∙ ap (λ l. roomy l left) (drop-cons ns i d h) ∙ roomy-not (getD ns i d) (drop (suc i) ns) left n z)
+
+pub roomy-all : (ns : List ℕ) (i room left : ℕ) → i ≤ length ns → length ns ≤ i → roomy ns room ≡ roomy (drop i ns) left → true ≡ roomy ns room
+unfolding roomy
+roomy-all ns i room left h k e =
+    let z : i ≡ length ns = omega arith in
+    sym (e ∙ ap (λ l. roomy l left) (ap (λ j. drop j ns) z ∙ drop-length ns))
+
+-- where what is left is roomy, the next request has room for what is due, and what is left after it is roomy
+pub due-room : (n : ℕ) (ns : List ℕ) (room : ℕ) → roomy (n ∷ ns) room ≡ true → (due n ≤ room) × (roomy ns (room - taken n) ≡ true)
+unfolding roomy taken
+due-room zero ns room h = (ltb-true 0 room (and-left (ltb 0 room) (roomy ns (room - 1)) h), and-right (ltb 0 room) (roomy ns (room - 1)) h)
+due-room (suc n) ns room h = (omega arith, h)
+
+pub next-roomy : (ns : List ℕ) (j z l at m : ℕ) → j < length ns → m ≡ taken (getD ns j z) → roomy (drop j ns) (l - at) ≡ true
+    → (due (getD ns j z) ≤ l - at) × (roomy (drop (j + 1) ns) (l - (at + m)) ≡ true)
+next-roomy ns j z l at m h hm e =
+    let r = due-room (getD ns j z) (drop (suc j) ns) (l - at) (sym (ap (λ k. roomy k (l - at)) (drop-cons ns j z h)) ∙ e) in
+    let w : l - (at + m) ≡ l - at - taken (getD ns j z) = omega (arith, hm) in
+    (r .0, ap (λ k. roomy (drop k ns) (l - (at + m))) (add-one j) ∙ ap (roomy (drop (suc j) ns)) w ∙ r .1)
+
+pub due-zero : (n : ℕ) → n ≡ 0 → due n ≡ 1
+due-zero n h = ap due h
+
+-- a request's rows are no more than it has room for
+clear : (p q r s : Bool) → _≡_ {A = ℕ} (cond p 18 (cond q 17 (cond r 17 (cond s 17 0)))) 0 → (q ≡ false) × (r ≡ false) × (s ≡ false)
+clear true q r s e = absurd (omega arith)
+clear false true r s e = absurd (omega arith)
+clear false false true s e = absurd (omega arith)
+clear false false false true e = absurd (omega arith)
+clear false false false false e = (refl, refl, refl)
+
+-- a list that is not refused has room
+list-room : (n i j k : ℕ) → listRefusal n i j k ≡ 0 → (n ≤ i) × (6 * n ≤ j) × (n ≤ k)
+unfolding listRefusal
+list-room n i j k e =
+    let c = clear (ltb 1024 n) (ltb i n) (ltb j (6 * n)) (ltb k n) e in
+    (ltb-false i n (c .0), ltb-false j (6 * n) (c .1), ltb-false k n (c .2))
+
+bound-by : (b : Bool) (us : List ℤ) (i j k : ℕ) → eqb (listRefusal (length us) i j k) 0 ≡ b
+    → (length (cond b us []) ≤ i) × (6 * length (cond b us []) ≤ j) × (length (cond b us []) ≤ k)
+bound-by true us i j k e = list-room (length us) i j k (eqb-true (listRefusal (length us) i j k) 0 e)
+bound-by false us i j k e = (omega arith, omega arith, omega arith)
+
+pub rows-bound : (n : ℕ) (ts : List ℤ) (i j k : ℕ) → due n ≤ i → 6 * due n ≤ j → due n ≤ k
+    → (length (rowTimes (requestOf n ts i j k)) ≤ i) × (6 * length (rowTimes (requestOf n ts i j k)) ≤ j) × (length (rowTimes (requestOf n ts i j k)) ≤ k)
+rows-bound zero ts i j k a b c = (a, b, c)
+rows-bound (suc n) ts i j k a b c = bound-by (eqb (listRefusal (length (take n ts)) i j k) 0) (take n ts) i j k refl

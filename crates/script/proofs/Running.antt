@@ -1,7 +1,7 @@
 -- A script's requests, one after the other: the invariant of the loop over them, and demand 3 of what it leaves.
 use mathlib.Core.Path.{_≡_, refl, sym, ap, _∙_, subst}
 use mathlib.Core.List.{List, [], _∷_, _++_, append-assoc, append-nil, map}
-use Prim.Native.Nat.{ℕ, zero, suc, _+_, _-_, _*_, _≤_, _<_}
+use Prim.Native.Nat.{ℕ, zero, suc, _+_, _-_, _*_, _/_, _≤_, _<_}
 use native.Mathlib.Numerals.{add-one}
 use native.Mathlib.Omega.{arith}
 use lib.Dec.{eqb}
@@ -15,7 +15,8 @@ use Rattle.opening.specs.declared.opening.Satellite.{Satellite}
 use Rattle.requests.specs.Lists.{listRefusal, listTimes, stateOf, statesOf, refusalsOf, roundsOf, over}
 use Rattle.requests.specs.Demand3.{Request, One, Many, Outcome, outcome, rowTimes, run, reported}
 use Rattle.requests.proofs.Filling.{length-rows, length-refusals, length-rounds, length-states, over-set, length-over}
-use Rattle.script.specs.Script.{taken, needed, requestOf, script, rowsOf, Step, Left}
+use Rattle.script.specs.Script.{taken, needed, requestOf, script, roomy, due, rowsOf, Step, Left}
+use Rattle.script.proofs.Rooms.{next-roomy, rows-bound}
 
 -- ── the next request ──
 
@@ -94,9 +95,12 @@ pub record Running (s₀ : Satellite) (ns : List ℕ) (ts : List ℤ) (a₀ : Li
   pub done : List Outcome
   pub upto : j ≤ length ns
   pub roomT : needed ns ≤ length ts
-  pub roomA : needed ns ≤ length a₀
-  pub roomB : 6 * needed ns ≤ length b₀
-  pub roomC : needed ns ≤ length c₀
+  pub roomA : roomy (drop j ns) (length a₀ - at) ≡ true
+  pub roomB : roomy (drop j ns) (length b₀ / 6 - at) ≡ true
+  pub roomC : roomy (drop j ns) (length c₀ - at) ≡ true
+  pub fitA : rows ≤ length a₀
+  pub fitB : 6 * rows ≤ length b₀
+  pub fitC : rows ≤ length c₀
   pub roomD : length ns ≤ length d₀
   pub small : needed ns ≤ 9223372036854775808
   pub few : 8 * length ns ≤ 9223372036854775808
@@ -118,15 +122,18 @@ from-none : (n : ℕ) → n - 0 ≡ n
 from-none n = omega arith
 
 pub running-none : (s : Satellite) (ns : List ℕ) (ts : List ℤ) (a : List ℕ) (b : List Float) (c : List ℕ) (d : List ℕ)
-    → needed ns ≤ length ts → needed ns ≤ length a → 6 * needed ns ≤ length b → needed ns ≤ length c → length ns ≤ length d
+    → needed ns ≤ length ts → roomy ns (length a) ≡ true → roomy ns (length b / 6) ≡ true → roomy ns (length c) ≡ true → length ns ≤ length d
     → needed ns ≤ 9223372036854775808 → 8 * length ns ≤ 9223372036854775808 → Running s ns ts a b c d a b c d s 0 0 0
 running-none s ns ts a b c d ht ha hb hc hd hs hf = record {
   done = [];
   upto = omega arith;
   roomT = ht;
-  roomA = ha;
-  roomB = hb;
-  roomC = hc;
+  roomA = ap (roomy ns) (from-none (length a)) ∙ ha;
+  roomB = ap (roomy ns) (from-none (length b / 6)) ∙ hb;
+  roomC = ap (roomy ns) (from-none (length c)) ∙ hc;
+  fitA = omega arith;
+  fitB = omega arith;
+  fitC = omega arith;
   roomD = hd;
   small = hs;
   few = hf;
@@ -157,11 +164,11 @@ pub next-fits : {s₀ : Satellite} {ns : List ℕ} {ts : List ℤ} {a₀ : List 
     → Running s₀ ns ts a₀ b₀ c₀ d₀ a b c d s at rows j → j < length ns → at + taken (getD ns j z) ≤ needed ns
 next-fits {s₀} {ns} {ts} {a₀} {b₀} {c₀} {d₀} {a} {b} {c} {d} {s} {at} {rows} {j} z f h = omega (arith, f .took, needed-drop ns j z h)
 
-wide : (x y z n : ℕ) → x ≤ y → y + z ≤ n → (m : ℕ) → n ≤ m → x + z ≤ m
-wide x y z n h k m l = omega arith
+wide : (rows at d m l : ℕ) → rows ≤ at → rows ≤ m → d ≤ m - at → l ≡ m → rows + d ≤ l
+wide rows at d m l h k e w = omega arith
 
-wide-six : (x y z n : ℕ) → x ≤ y → y + z ≤ n → (m : ℕ) → 6 * n ≤ m → 6 * (x + z) ≤ m
-wide-six x y z n h k m l = omega arith
+wide-six : (rows at d m l : ℕ) → rows ≤ at → 6 * rows ≤ m → d ≤ m / 6 - at → l ≡ m → 6 * (rows + d) ≤ l
+wide-six rows at d m l h k e w = omega arith
 
 most : (x n m l : ℕ) → x ≤ n → n ≤ m → l ≡ m → x ≤ l
 most x n m l h k e = omega arith
@@ -169,16 +176,17 @@ most x n m l h k e = omega arith
 -- and its rows have room
 pub next-room : {s₀ : Satellite} {ns : List ℕ} {ts : List ℤ} {a₀ : List ℕ} {b₀ : List Float} {c₀ : List ℕ} {d₀ : List ℕ} {a : List ℕ} {b : List Float} {c : List ℕ} {d : List ℕ} {s : Satellite} {at rows j : ℕ} (z : ℕ)
     → Running s₀ ns ts a₀ b₀ c₀ d₀ a b c d s at rows j → j < length ns
-    → (at + taken (getD ns j z) ≤ length ts) × ((rows + taken (getD ns j z) ≤ length a) × ((6 * (rows + taken (getD ns j z)) ≤ length b) × (rows + taken (getD ns j z) ≤ length c)))
+    → (at + taken (getD ns j z) ≤ length ts) × ((rows + due (getD ns j z) ≤ length a) × ((6 * (rows + due (getD ns j z)) ≤ length b) × (rows + due (getD ns j z) ≤ length c)))
 next-room {s₀} {ns} {ts} {a₀} {b₀} {c₀} {d₀} {a} {b} {c} {d} {s} {at} {rows} {j} z f h =
     let g = taken (getD ns j z) in
+    let d′ = due (getD ns j z) in
     let e : at + g ≤ needed ns = next-fits z f h in (
       most (at + g) (needed ns) (length ts) (length ts) e (f .roomT) refl,
       (
-        wide rows at g (needed ns) (f .under) e (length a) (subst (λ i. needed ns ≤ i) (sym (f .lenA)) (f .roomA)),
+        wide rows at d′ (length a₀) (length a) (f .under) (f .fitA) (next-roomy ns j z (length a₀) at g h refl (f .roomA) .0) (f .lenA),
         (
-          wide-six rows at g (needed ns) (f .under) e (length b) (subst (λ i. 6 * needed ns ≤ i) (sym (f .lenB)) (f .roomB)),
-          wide rows at g (needed ns) (f .under) e (length c) (subst (λ i. needed ns ≤ i) (sym (f .lenC)) (f .roomC)),
+          wide-six rows at d′ (length b₀) (length b) (f .under) (f .fitB) (next-roomy ns j z (length b₀ / 6) at g h refl (f .roomB) .0) (f .lenB),
+          wide rows at d′ (length c₀) (length c) (f .under) (f .fitC) (next-roomy ns j z (length c₀) at g h refl (f .roomC) .0) (f .lenC),
         ),
       ),
     )
@@ -194,11 +202,20 @@ module _ {A : Type 0} where
       let w : n ≤ length l = omega arith in
       omega (arith, length-append (take n l) (over xs (drop n l)), length-over xs (drop n l) k, length-take-le n l w, length-drop n l)
 
-rows-fit : (rows k g l x : ℕ) → rows + g ≤ l → k ≤ g → x ≡ k → rows + x ≤ l
-rows-fit rows k g l x h e w = omega arith
+rows-fit : (rows k l m x : ℕ) → rows ≤ l → k ≤ l - rows → x ≡ k → m ≡ l → rows + x ≤ m
+rows-fit rows k l m x h e w q = omega arith
 
-rows-fit-six : (rows k g l x : ℕ) → 6 * (rows + g) ≤ l → k ≤ g → x ≡ 6 * k → 6 * rows + x ≤ l
-rows-fit-six rows k g l x h e w = omega arith
+rows-fit-six : (rows k l m x : ℕ) → 6 * rows ≤ l → 6 * k ≤ l - 6 * rows → x ≡ 6 * k → m ≡ l → 6 * rows + x ≤ m
+rows-fit-six rows k l m x h e w q = omega arith
+
+six-more : (rows k l : ℕ) → 6 * rows ≤ l → 6 * k ≤ l - 6 * rows → 6 * (rows + k) ≤ l
+six-more rows k l h e = omega arith
+
+due-left : (rows d l m : ℕ) → rows + d ≤ m → m ≡ l → d ≤ l - rows
+due-left rows d l m h e = omega arith
+
+due-left-six : (rows d l m : ℕ) → 6 * (rows + d) ≤ m → m ≡ l → 6 * d ≤ l - 6 * rows
+due-left-six rows d l m h e = omega arith
 
 -- what the script is from its next request on
 script-next : (s : Satellite) (ns : List ℕ) (ts : List ℤ) (i j k : ℕ) (n : ℕ) → run s (script (n ∷ ns) ts i j k)
@@ -262,12 +279,18 @@ running-more s₀ ns ts a₀ b₀ c₀ d₀ a b c d s at rows j z m s′ n k a�
     ∙ ap (λ l. o ∷ l) rest in
     let room = next-room z f h in
     let lk : length (o .rows) ≡ k = length-outcome s r₀ ∙ sym (q .added) in
+    let bound = rows-bound g (drop at ts) (length a₀ - rows) (length b₀ - 6 * rows) (length c₀ - rows)
+    (due-left rows (due g) (length a₀) (length a) (room .1 .0) (f .lenA)) (due-left-six rows (due g) (length b₀) (length b) (room .1 .1 .0) (f .lenB))
+    (due-left rows (due g) (length c₀) (length c) (room .1 .1 .1) (f .lenC)) in
+    let ka : k ≤ length a₀ - rows = subst (λ i. i ≤ length a₀ - rows) (sym (q .added)) (bound .0) in
+    let kb : 6 * k ≤ length b₀ - 6 * rows = subst (λ i. 6 * i ≤ length b₀ - 6 * rows) (sym (q .added)) (bound .1) in
+    let kc : k ≤ length c₀ - rows = subst (λ i. i ≤ length c₀ - rows) (sym (q .added)) (bound .2) in
     let la : length a′ ≡ length a =
-    ap length (q .refusals) ∙ length-part (refusalsOf (o .rows)) a rows (rows-fit rows k (taken g) (length a) _ (room .1 .0) few (length-refusals (o .rows) ∙ lk)) in
+    ap length (q .refusals) ∙ length-part (refusalsOf (o .rows)) a rows (rows-fit rows k (length a₀) (length a) _ (f .fitA) ka (length-refusals (o .rows) ∙ lk) (f .lenA)) in
     let lb : length b′ ≡ length b =
-    ap length (q .states) ∙ length-part (statesOf (o .rows)) b (6 * rows) (rows-fit-six rows k (taken g) (length b) _ (room .1 .1 .0) few (length-states (o .rows) ∙ ap (λ i. 6 * i) lk)) in
+    ap length (q .states) ∙ length-part (statesOf (o .rows)) b (6 * rows) (rows-fit-six rows k (length b₀) (length b) _ (f .fitB) kb (length-states (o .rows) ∙ ap (λ i. 6 * i) lk) (f .lenB)) in
     let lc : length c′ ≡ length c =
-    ap length (q .rounds) ∙ length-part (roundsOf (o .rows)) c rows (rows-fit rows k (taken g) (length c) _ (room .1 .1 .1) few (length-rounds (o .rows) ∙ lk)) in
+    ap length (q .rounds) ∙ length-part (roundsOf (o .rows)) c rows (rows-fit rows k (length c₀) (length c) _ (f .fitC) kc (length-rounds (o .rows) ∙ lk) (f .lenC)) in
     let lr : length (refusalsOf (rowsOf (f .done))) ≡ rows = length-refusals (rowsOf (f .done)) ∙ f .long in
     let ls : length (statesOf (rowsOf (f .done))) ≡ 6 * rows = length-states (rowsOf (f .done)) ∙ ap (λ i. 6 * i) (f .long) in
     let lo : length (roundsOf (rowsOf (f .done))) ≡ rows = length-rounds (rowsOf (f .done)) ∙ f .long in
@@ -275,9 +298,12 @@ running-more s₀ ns ts a₀ b₀ c₀ d₀ a b c d s at rows j z m s′ n k a�
       done = more;
       upto = up j (length ns) h;
       roomT = f .roomT;
-      roomA = f .roomA;
-      roomB = f .roomB;
-      roomC = f .roomC;
+      roomA = next-roomy ns j z (length a₀) at m h hm (f .roomA) .1;
+      roomB = next-roomy ns j z (length b₀ / 6) at m h hm (f .roomB) .1;
+      roomC = next-roomy ns j z (length c₀) at m h hm (f .roomC) .1;
+      fitA = rows-fit rows k (length a₀) (length a₀) k (f .fitA) ka refl refl;
+      fitB = six-more rows k (length b₀) (f .fitB) kb;
+      fitC = rows-fit rows k (length c₀) (length c₀) k (f .fitC) kc refl refl;
       roomD = f .roomD;
       small = f .small;
       few = f .few;

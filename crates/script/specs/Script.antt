@@ -4,7 +4,7 @@ use mathlib.Core.Path.{_≡_}
 use mathlib.Core.Bool.{Bool, true, false, _&&_}
 use mathlib.Core.List.{List, [], _∷_, _++_, map}
 use lib.ListN.{length, take, drop, getD}
-use lib.Dec.{leb}
+use lib.Dec.{leb, ltb}
 use lib.IntN.{ℤ, pos}
 use lib.Ieee.{Float}
 use Rattle.resonance.specs.declared.place.Side.{Side}
@@ -13,9 +13,10 @@ use Rattle.sgp4.specs.Sgp4.{integratorOf}
 use Rattle.opening.specs.declared.opening.Satellite.{Satellite}
 use Rattle.opening.specs.declared.opening.PairOpening.{PairOpening}
 use Rattle.opening.specs.declared.opening.PairOpening.the-variants as pair
-use Rattle.opening.specs.Opening.{openPairOf, pairNumber}
+use Rattle.tle.specs.Refusals.{Values, nothing, numberOf, valuesOf}
+use Rattle.opening.specs.Opening.{number, openPairOf, pairNumber, pairValues}
 use Rattle.script.specs.declared.Ran.{Ran}
-use Rattle.script.specs.declared.Ran.the-variants.{Done, Short, Closed}
+use Rattle.script.specs.declared.Ran.the-variants.{Done, Short, Unread, Refused}
 use Rattle.requests.specs.Lists.{refusalsOf, statesOf, roundsOf, over}
 use Rattle.sgp4.specs.declared.Row.{Row}
 use Rattle.requests.specs.Demand3.{Request, One, Many, Outcome, outcome, rowTimes, run, times, sum, reported, none, counted, ranged, Outward, farthest, rowAlone, stridesAlone, NoMore}
@@ -44,9 +45,21 @@ script (n ∷ ns) ts a b c =
     let k = length (rowTimes r) in
     r ∷ script ns (drop (taken n) ts) (a - k) (b - 6 * k) (c - k)
 
--- whether the times suffice, and the rooms for a row of each time and for the strides of each request
+-- whether a room of so many rows has one for each single request, where every list before it fills its own; a list for which
+-- too few are left is refused with 17, and the script goes on
+unfoldable pub roomy : List ℕ → ℕ → Bool
+roomy [] room = true
+roomy (zero ∷ ns) room = ltb 0 room && roomy ns (room - 1)
+roomy (suc n ∷ ns) room = roomy ns (room - n)
+
+-- whether the times suffice, and the rooms for the row of each single request and for the strides of each request
 unfoldable pub roomFor : List ℕ → ℕ → ℕ → ℕ → ℕ → ℕ → Bool
-roomFor ns t a b c d = leb (needed ns) t && leb (needed ns) a && leb (needed ns) (b / 6) && leb (needed ns) c && leb (length ns) d
+roomFor ns t a b c d = leb (needed ns) t && roomy ns a && roomy ns (b / 6) && roomy ns c && leb (length ns) d
+
+-- the rows that a request must have room for
+abbrev pub due : ℕ → ℕ
+due zero = 1
+due (suc n) = 0
 
 -- ── what is left in memory ──
 
@@ -79,18 +92,29 @@ pub record Demanded (s : Satellite) (rs : List Request) (a : List ℕ) (b : List
   pub outward : (e : Side) → Outward e 0 (ranged (times rs)) → sum (take (length rs) d′) ≡ wholeStrides (integratorOf (s .model)) (farthest (ranged (times rs)))
   pub noMore : NoMore (take (length rs) d′) (map (λ r. sum (map (stridesAlone s) (ranged (rowTimes r)))) rs)
 
--- what a script answers: `Done`, `Short` (a room or the times too short: nothing is run) or `Closed` (the lines do not open)
+-- what a script answers: `Done`; `Short`, a room or the times too short, and nothing is run; or the refusal of the lines
 unfoldable pub ranOf : Bool → PairOpening → Ran
 ranOf false o = Short
 ranOf true (pair.Opened s) = Done
-ranOf true (pair.Unread why) = Closed
-ranOf true (pair.Refused why) = Closed
+ranOf true (pair.Unread why) = Unread why
+ranOf true (pair.Refused why) = Refused why
 
--- document 01's number of each answer: 17, and where the lines do not open that of opening them
-unfoldable pub ranNumber : PairOpening → Ran → ℕ
-ranNumber o Done = 0
-ranNumber o Short = 17
-ranNumber o Closed = pairNumber o
+-- document 01's number of each answer, and what comes back with it
+unfoldable pub ranNumber : Ran → ℕ
+ranNumber Done = 0
+ranNumber Short = 17
+ranNumber (Unread why) = numberOf why
+ranNumber (Refused why) = number why
+
+unfoldable pub ranValues : Ran → Values
+ranValues Done = nothing
+ranValues Short = nothing
+ranValues (Unread why) = valuesOf why
+ranValues (Refused why) = nothing
+
+-- where the script has room, they are those of opening the two lines: proved in proofs/Numbers
+abbrev pub AsOpening : Type 0
+AsOpening = (o : PairOpening) → (ranNumber (ranOf true o) ≡ pairNumber o) × (ranValues (ranOf true o) ≡ pairValues o)
 
 -- the contract of `run_script`: the answer; nothing written unless it is `Done`; and then demand 3 of the memory, for the satellite that the lines open to
 pub record Post (line1 line2 : List ℕ) (ns : List ℕ) (ts : List ℤ) (a : List ℕ) (b : List Float) (c : List ℕ) (d : List ℕ) (r : Ran) (a′ : List ℕ) (b′ : List Float) (c′ : List ℕ) (d′ : List ℕ) : Type 0 where

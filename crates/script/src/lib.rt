@@ -1,6 +1,7 @@
 // A whole script of requests, run from two lines: demand 3 of running code.
 ghost use mathlib.Core.Path.{_≡_};
-ghost use Prim.Native.Nat.{_+_, _-_, _*_, _<_, _≤_};
+ghost use Prim.Native.Nat.{_+_, _-_, _*_, _/_, _<_, _≤_};
+ghost use mathlib.Core.Bool.{true};
 ghost use mathlib.Core.List.{_++_};
 ghost use lib.ListN.{length, take, drop, set};
 ghost use lib.Seq.{sets};
@@ -17,12 +18,27 @@ use requests::request;
 use requests::request_list;
 use sgp4::Row;
 
-// What became of a script: run; not begun, for want of times or of room; or not begun, since the
-// lines do not open.
+// What became of a script: run; not begun, for want of times or of room (17); or not begun, since the
+// lines are refused by reading (1 to 6) or by opening (7 and 8).
 pub enum Ran {
     Done,
     Short,
-    Closed,
+    Unread(tle::Refusal),
+    Refused(opening::opening::Refusal),
+}
+
+impl Ran {
+    // Document 01's number of the answer, 0 where the script was run.
+    pub fn number(self) -> u64
+        ensures { λ n. ⌜ n ≡ S.ranNumber self ⌝ }
+    {
+        match self {
+            Ran::Done => 0,
+            Ran::Short => 17,
+            Ran::Unread(why) => why.number(),
+            Ran::Refused(why) => why.number(),
+        }
+    }
 }
 
 struct Stepped {
@@ -41,6 +57,16 @@ fn taken(n: usize) -> usize
     n - 1
 }
 
+// What is left of `room` after n, or nothing.
+fn less(room: usize, n: usize) -> usize
+    ensures { λ r. ⌜ r ≡ room - n ⌝ }
+{
+    if room < n {
+        return 0;
+    }
+    room - n
+}
+
 // Whether all requests together take at most `room` times.
 fn fits(lengths: &[usize], room: usize) -> bool
     ensures { λ r. ⌜ r ≡ leb (S.needed (now (lengths .entry))) room ⌝ }
@@ -53,6 +79,23 @@ fn fits(lengths: &[usize], room: usize) -> bool
             return false;
         }
         left -= n;
+        i += 1;
+    }
+    true
+}
+
+// Whether a room of so many rows has one for each single request, where every list fills its own.
+fn roomy(lengths: &[usize], room: usize) -> bool
+    ensures { λ r. ⌜ r ≡ S.roomy (now (lengths .entry)) room ⌝ }
+{
+    let mut left = room;
+    let mut i = 0;
+    while i < lengths.len() {
+        let n = lengths[i];
+        if (n == 0) & (left == 0) {
+            return false;
+        }
+        left = less(left, taken(n));
         i += 1;
     }
     true
@@ -155,9 +198,9 @@ fn step(
     rounds: &mut [u8],
 ) -> Stepped
     requires { ⌜ at + S.taken n ≤ length (now times) ⌝ }
-    requires { ⌜ rows + S.taken n ≤ length (now refusals) ⌝ }
-    requires { ⌜ 6 * (rows + S.taken n) ≤ length (now states) ⌝ }
-    requires { ⌜ rows + S.taken n ≤ length (now rounds) ⌝ }
+    requires { ⌜ rows + S.due n ≤ length (now refusals) ⌝ }
+    requires { ⌜ 6 * (rows + S.due n) ≤ length (now states) ⌝ }
+    requires { ⌜ rows + S.due n ≤ length (now rounds) ⌝ }
     ensures { λ r. ⌜ S.Step s (S.requestOf n (drop at (now (times .entry))) (length (now (refusals .entry)) - rows) (length (now (states .entry)) - 6 * rows) (length (now (rounds .entry)) - rows)) rows (now (refusals .entry)) (now (states .entry)) (now (rounds .entry)) (r .satellite) (r .strides .0) (r .rows) (now (refusals .exit)) (now (states .exit)) (now (rounds .exit)) ⌝ }
 {
     if n == 0 {
@@ -179,9 +222,9 @@ fn run_all(
     strides: &mut [u32],
 )
     requires { ⌜ S.needed (now lengths) ≤ length (now times) ⌝ }
-    requires { ⌜ S.needed (now lengths) ≤ length (now refusals) ⌝ }
-    requires { ⌜ 6 * S.needed (now lengths) ≤ length (now states) ⌝ }
-    requires { ⌜ S.needed (now lengths) ≤ length (now rounds) ⌝ }
+    requires { ⌜ S.roomy (now lengths) (length (now refusals)) ≡ true ⌝ }
+    requires { ⌜ S.roomy (now lengths) (length (now states) / 6) ≡ true ⌝ }
+    requires { ⌜ S.roomy (now lengths) (length (now rounds)) ≡ true ⌝ }
     requires { ⌜ length (now lengths) ≤ length (now strides) ⌝ }
     ensures { λ _. ⌜ S.Left first (S.script (now (lengths .entry)) (now (times .entry)) (length (now (refusals .entry))) (length (now (states .entry))) (length (now (rounds .entry)))) (now (refusals .entry)) (now (states .entry)) (now (rounds .entry)) (now (strides .entry)) (now (refusals .exit)) (now (states .exit)) (now (rounds .exit)) (now (strides .exit)) ⌝ }
 {
@@ -201,28 +244,29 @@ fn run_all(
     }
 }
 
-// Whether the times suffice, and the rooms for every row and for the strides of every request.
+// Whether the times suffice, and the rooms for the row of each single request and for the strides of
+// every request.
 fn has_room(lengths: &[usize], t: usize, a: usize, b: usize, c: usize, d: usize) -> bool
     ensures { λ r. ⌜ r ≡ S.roomFor (now (lengths .entry)) t a b c d ⌝ }
 {
     if !fits(lengths, t) {
         return false;
     }
-    if !fits(lengths, a) {
+    if !roomy(lengths, a) {
         return false;
     }
-    if !fits(lengths, b / 6) {
+    if !roomy(lengths, b / 6) {
         return false;
     }
-    if !fits(lengths, c) {
+    if !roomy(lengths, c) {
         return false;
     }
     lengths.len() <= d
 }
 
 // Reads and opens two lines and puts the requests of a script to the satellite, each to what the
-// last gave back. The rows of all follow one another in the rooms; `strides` gets one number for
-// each request.
+// last gave back. The rows of all follow one another in the rooms; a list is lent what is left of
+// them, and refused with 17 where that is too short. `strides` gets one number for each request.
 pub fn run_script(
     line1: &[u8],
     line2: &[u8],
@@ -250,7 +294,7 @@ pub fn run_script(
             run_all(s, lengths, times, refusals, states, rounds, strides);
             Ran::Done
         }
-        PairOpening::Unread(_) => Ran::Closed,
-        PairOpening::Refused(_) => Ran::Closed,
+        PairOpening::Unread(why) => Ran::Unread(why),
+        PairOpening::Refused(why) => Ran::Refused(why),
     }
 }

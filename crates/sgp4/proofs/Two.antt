@@ -11,7 +11,6 @@ use Rattle.satellite.specs.declared.Model.{Model}
 use Rattle.satellite.specs.declared.Method.{Method}
 use Rattle.satellite.specs.declared.Method.the-variants as methods
 use Rattle.state.specs.declared.parts.Secular.{Secular}
-use Rattle.state.specs.declared.parts.Mean.{Mean}
 use Rattle.state.specs.declared.parts.ReadyPair.{ReadyPair}
 use Rattle.state.specs.declared.parts.ReadyPair.the-variants as ready
 use Rattle.state.specs.declared.answer.Refusal.the-variants.{MeanMotion, MeanElements, Eccentricity}
@@ -26,14 +25,14 @@ use Rattle.periodics.specs.declared.dpper.Perturbed as dpper
 use Rattle.resonance.specs.declared.place.Place.{Place}
 use Rattle.resonance.specs.declared.dspace.Mean as dspace
 use Rattle.sgp4.specs.declared.Row.{Row}
-use Rattle.sgp4.specs.declared.Rows.{Rows}
-use Rattle.sgp4.specs.declared.deep_space.Drift.{Drift}
+use Rattle.sgp4.specs.declared.pairs.Rows.{Rows}
+use Rattle.sgp4.specs.declared.deep_space.pairs.Drift.{Drift}
 use Rattle.sgp4.specs.DeepSpace.{noEllipse, perturbed, averaged, moved, deepSpace}
-use Rattle.sgp4.specs.Sgp4.{stateBy, stateAt}
-use Rattle.sgp4.specs.Row.{rowOf, rowAt}
+use Rattle.sgp4.specs.Row.{rowOf}
+use Rattle.sgp4.specs.Kept.{stateByFrom, stateFrom, rowFrom}
 use Rattle.sgp4.specs.Two.{readyOf, perturbedTwo, averagedTwo, driftOf, movedTwo, deepTwo, readyBy}
 
-perturbed-readied : (x : dpper.Perturbed) (m : Mean) (x2 : dpper.Perturbed) (m2 : Mean) → Readied (perturbedTwo x m x2 m2) (perturbed x m) (perturbed x2 m2)
+perturbed-readied : (x : dpper.Perturbed) (m : Float) (x2 : dpper.Perturbed) (m2 : Float) → Readied (perturbedTwo x m x2 m2) (perturbed x m) (perturbed x2 m2)
 unfolding perturbedTwo perturbed readyOf
 perturbed-readied x m x2 m2 = ready-on (noEllipse (x .ep)) (noEllipse (x2 .ep)) (ready.Both (readyOf x m) (readyOf x2 m2)) (Refused Eccentricity) (Refused Eccentricity) _ _ (refl, refl)
 
@@ -50,12 +49,12 @@ deep-readied : (s : NearEarth) (d : DeepSpace) (p : Place) (t : Minutes) (p2 : P
 unfolding deepTwo deepSpace
 deep-readied s d p t p2 t2 = moved-readied _ _ t _ _ t2 _ _
 
-readied : (s : NearEarth) (method : Method) (p : Place) (t : Minutes) (p2 : Place) (t2 : Minutes) → Readied (readyBy s method p t p2 t2) (stateBy s method p t) (stateBy s method p2 t2)
-unfolding readyBy stateBy
-readied s methods.NearEarth p t p2 t2 = near-readied s (t .0) (t2 .0)
+readied : (s : NearEarth) (method : Method) (p : Place) (t : Minutes) (p2 : Place) (t2 : Minutes) → Readied (readyBy s method p t p2 t2) (stateByFrom s method p t) (stateByFrom s method p2 t2)
+unfolding readyBy stateByFrom
+readied s methods.NearEarth p t p2 t2 = near-readied s t t2
 readied s (methods.DeepSpace d) p t p2 t2 = deep-readied s d p t p2 t2
 
-pub pair-by : (s : NearEarth) (method : Method) (p : Place) (t : Minutes) (p2 : Place) (t2 : Minutes) → Same (pairOf (readyBy s method p t p2 t2)) (stateBy s method p t) (stateBy s method p2 t2)
+pub pair-by : (s : NearEarth) (method : Method) (p : Place) (t : Minutes) (p2 : Place) (t2 : Minutes) → Same (pairOf (readyBy s method p t p2 t2)) (stateByFrom s method p t) (stateByFrom s method p2 t2)
 pair-by s method p t p2 t2 = pair-same (readyBy s method p t p2 t2) _ _ (readied s method p t p2 t2)
 
 -- ── two rows ──
@@ -65,11 +64,11 @@ both-rows a b c d h k = ap (λ (x : Row). record { first = x; second = b }) h �
 
 pub pair-rows : (k : Model) (p : Place) (t : ℤ) (p2 : Place) (t2 : ℤ) (x y : Float) (r : ReadyPair) (q : Pair) (a b : Answer) (c d : Row)
     → x ≡ minutesOf t → y ≡ minutesOf t2 → r ≡ readyBy (k .near) (k .method) p (record { 0 = x }) p2 (record { 0 = y }) → q ≡ pairOf r → q ≡ Both a b
-    → c ≡ rowOf a → d ≡ rowOf b → _≡_ {A = Rows} (record { first = c; second = d }) (record { first = rowAt k p t; second = rowAt k p2 t2 })
-unfolding rowAt stateAt
+    → c ≡ rowOf a → d ≡ rowOf b → _≡_ {A = Rows} (record { first = c; second = d }) (record { first = rowFrom k p t; second = rowFrom k p2 t2 })
+unfolding rowFrom stateFrom
 pair-rows k p t p2 t2 x y r q a b c d hx hy hr hq hab hc hd =
-    let first = stateBy (k .near) (k .method) p (record { 0 = minutesOf t }) in
-    let second = stateBy (k .near) (k .method) p2 (record { 0 = minutesOf t2 }) in
+    let first = stateByFrom (k .near) (k .method) p (record { 0 = minutesOf t }) in
+    let second = stateByFrom (k .near) (k .method) p2 (record { 0 = minutesOf t2 }) in
     let ready : r ≡ readyBy (k .near) (k .method) p (record { 0 = minutesOf t }) p2 (record { 0 = minutesOf t2 }) =
     hr ∙ ap (λ (z : Float). readyBy (k .near) (k .method) p (record { 0 = z }) p2 (record { 0 = y })) hx
     ∙ ap (λ (z : Float). readyBy (k .near) (k .method) p (record { 0 = minutesOf t }) p2 (record { 0 = z })) hy in

@@ -2,11 +2,9 @@
 -- 002 goes on after an error; document 01 lets the first refusal met count.
 use mathlib.Core.Bool.{Bool, true, false, cond, _||_}
 use lib.Ieee.{Float, neg, lt}
-use Rattle.elementary.specs.Notation.{_⊕_, _⊖_, _⊗_, _⊘_, dec, pi}
-use Rattle.elementary.specs.Power.{pow23}
+use Rattle.elementary.specs.Notation.{_⊕_, _⊖_, _⊗_, dec, pi}
 use Rattle.elementary.specs.Trig.{sinOf, cosOf}
 use Rattle.instant.specs.declared.Minutes.{Minutes}
-use Rattle.wgs72.specs.Getgravconst.{xke}
 use Rattle.satellite.specs.declared.NearEarth.{NearEarth}
 use Rattle.satellite.specs.declared.Terms.{Terms}
 use Rattle.satellite.specs.declared.LunarSolar.{LunarSolar}
@@ -27,7 +25,7 @@ use Rattle.resonance.specs.declared.place.Place.{Place}
 use Rattle.resonance.specs.declared.dspace.Mean as dspace
 use Rattle.resonance.specs.Dspace.{dspaceOf}
 
--- 3387-3389 and 3409-3411: the mean elements that dspace is handed
+-- 3387-3389 and 3410-3411: the mean elements that dspace is handed
 unfoldable pub handed : NearEarth → Secular → dspace.Mean
 handed s g =
     record {
@@ -47,14 +45,14 @@ updated g d = record { mm = d .mm; argpm = d .argpm; nodem = d .nodem; tempa = g
 unfoldable pub averages : Float → Float → Angles → dpper.Perturbed
 averages em inclm a = record { ep = mended em; inclp = inclm; nodep = a .nodem; argpp = a .argpm; mp = a .mm }
 
--- 3473-3478
+-- 3471-3476
 unfoldable pub righted : dpper.Perturbed → dpper.Perturbed
 righted x =
     cond (lt (x .inclp) (dec 0 0))
     (record { ep = x .ep; inclp = neg (x .inclp); nodep = x .nodep ⊕ pi; argpp = x .argpp ⊖ pi; mp = x .mp })
     x
 
--- 3479: refusal 12
+-- 3477: refusal 12
 unfoldable pub noEllipse : Float → Bool
 noEllipse ep = lt ep (dec 0 0) || lt (dec 1 0) ep
 
@@ -63,7 +61,7 @@ unfoldable pub inclined : dpper.Perturbed → Float → Float → Perturbed
 inclined x sinip cosip =
     record { ep = x .ep; xincp = x .inclp; argpp = x .argpp; nodep = x .nodep; mp = x .mp; sinip = sinip; cosip = cosip }
 
--- 3493-3498 and 3550-3556: made anew from the perturbed inclination
+-- 3493-3498 and 3551-3557: made anew from the perturbed inclination
 unfoldable pub anew : Float → Float → Terms
 anew sinip cosip =
     let cosisq = cosip ⊗ cosip in
@@ -76,27 +74,27 @@ anew sinip cosip =
     }
 
 -- refusal 12, then from the long-period terms on
-unfoldable pub perturbed : dpper.Perturbed → Mean → Answer
-perturbed x m =
+unfoldable pub perturbed : dpper.Perturbed → Float → Answer
+perturbed x am =
     let sinip = sinOf (x .inclp) in
     let cosip = cosOf (x .inclp) in
-    cond (noEllipse (x .ep)) (Refused Eccentricity) (periodics (inclined x sinip cosip) m (anew sinip cosip))
+    cond (noEllipse (x .ep)) (Refused Eccentricity) (periodics (inclined x sinip cosip) am (anew sinip cosip))
 
--- refusal 11, then the lunar-solar periodics (3443-3484); of satrec.no
+-- refusal 11, then the lunar-solar periodics (3425-3482); of satrec.no
 unfoldable pub averaged : LunarSolar → Minutes → Float → Float → Secular → Mean → Answer
 averaged ls t n inclm g m =
     cond (outside m) (Refused MeanElements)
-    (perturbed (righted (dpperOf false ls t (averages (m .em) inclm (angles n g)))) m)
+    (perturbed (righted (dpperOf false ls t (averages (m .em) inclm (angles n g)))) (m .am))
 
 -- refusal 10, then the mean elements (3415-3422) of what dspace gives
 unfoldable pub moved : LunarSolar → Minutes → Float → dspace.Mean → Secular → Answer
 moved ls t n d g =
     cond (noMotion (d .nm)) (Refused MeanMotion)
-    (averaged ls t n (d .inclm) g (mean (pow23 (xke ⊘ d .nm)) (d .em) g))
+    (averaged ls t n (d .inclm) g (mean (d .nm) (d .em) g))
 
 -- `p` is the position of the whole strides that t needs
 unfoldable pub deepSpace : NearEarth → DeepSpace → Place → Minutes → Answer
 deepSpace s d p t =
-    let g = secular s (t .0) in
+    let g = secular s t in
     let e = dspaceOf p (d .integrator) (d .rates) (handed s g) t in
     moved (d .periodics) t (s .elements .no) e (updated g e)

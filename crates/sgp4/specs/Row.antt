@@ -19,6 +19,6 @@ unfoldable pub rowOf : Answer → Row
 rowOf (Given s k) = record { refusal = 0; x = s .rx; y = s .ry; z = s .rz; vx = s .vx; vy = s .vy; vz = s .vz; rounds = k }
 rowOf (Refused why) = refusedRow (number why)
 
--- the row of a time in range, in microseconds; `p` is the position of the whole strides that it needs
+-- the row of a time in range, in microseconds, by 002's own expressions; `p` is the position of the whole strides that it needs
 unfoldable pub rowAt : Model → Place → ℤ → Row
 rowAt k p t = rowOf (stateAt k p (record { 0 = minutesOf t }))

@@ -13,7 +13,7 @@ use Rattle.resonance.specs.declared.place.Place.{Place}
 use Rattle.sgp4.specs.DeepSpace.{deepSpace}
 
 unfoldable pub stateBy : NearEarth → Method → Place → Minutes → Answer
-stateBy s methods.NearEarth p t = sgp4 s (t .0)
+stateBy s methods.NearEarth p t = sgp4 s t
 stateBy s (methods.DeepSpace d) p t = deepSpace s d p t
 
 -- the state at t; `p` is the position of the whole strides that t needs

@@ -2,18 +2,14 @@
 -- come to is what each time comes to by itself. Definitions only.
 use mathlib.Core.Bool.{cond, _||_, false}
 use lib.Ieee.{Float}
-use Rattle.elementary.specs.Notation.{_⊘_}
-use Rattle.elementary.specs.Power.{pow23}
 use Rattle.elementary.specs.Trig.{sinOf, cosOf}
 use Rattle.instant.specs.declared.Minutes.{Minutes}
-use Rattle.wgs72.specs.Getgravconst.{xke}
 use Rattle.satellite.specs.declared.NearEarth.{NearEarth}
 use Rattle.satellite.specs.declared.LunarSolar.{LunarSolar}
 use Rattle.satellite.specs.declared.DeepSpace.{DeepSpace}
 use Rattle.satellite.specs.declared.Method.{Method}
 use Rattle.satellite.specs.declared.Method.the-variants as methods
 use Rattle.state.specs.declared.parts.Secular.{Secular}
-use Rattle.state.specs.declared.parts.Mean.{Mean}
 use Rattle.state.specs.declared.parts.Ready.{Ready}
 use Rattle.state.specs.declared.parts.ReadyPair.{ReadyPair}
 use Rattle.state.specs.declared.parts.ReadyPair.the-variants.{Both, Apart}
@@ -24,19 +20,19 @@ use Rattle.periodics.specs.Dpper.{dpperOf}
 use Rattle.resonance.specs.declared.place.Place.{Place}
 use Rattle.resonance.specs.declared.dspace.Mean as dspace
 use Rattle.resonance.specs.Dspace.{dspaceOf}
-use Rattle.sgp4.specs.declared.deep_space.Drift.{Drift}
+use Rattle.sgp4.specs.declared.deep_space.pairs.Drift.{Drift}
 use Rattle.sgp4.specs.DeepSpace.{handed, updated, averages, righted, noEllipse, inclined, anew}
 
 -- the perturbed elements, made ready
-unfoldable pub readyOf : dpper.Perturbed → Mean → Ready
-readyOf x m =
+unfoldable pub readyOf : dpper.Perturbed → Float → Ready
+readyOf x am =
     let sinip = sinOf (x .inclp) in
     let cosip = cosOf (x .inclp) in
-    record { p = inclined x sinip cosip; m = m; k = anew sinip cosip }
+    record { p = inclined x sinip cosip; am = am; k = anew sinip cosip }
 
 -- refusal 12 for neither
-unfoldable pub perturbedTwo : dpper.Perturbed → Mean → dpper.Perturbed → Mean → ReadyPair
-perturbedTwo x m x2 m2 = cond (noEllipse (x .ep) || noEllipse (x2 .ep)) Apart (Both (readyOf x m) (readyOf x2 m2))
+unfoldable pub perturbedTwo : dpper.Perturbed → Float → dpper.Perturbed → Float → ReadyPair
+perturbedTwo x am x2 am2 = cond (noEllipse (x .ep) || noEllipse (x2 .ep)) Apart (Both (readyOf x am) (readyOf x2 am2))
 
 -- refusal 11 for neither, then the lunar-solar periodics
 unfoldable pub averagedTwo : LunarSolar → Float → Drift → Drift → ReadyPair
@@ -44,13 +40,13 @@ averagedTwo ls n a b =
     cond (outside (a .m) || outside (b .m)) Apart
     (perturbedTwo
     (righted (dpperOf false ls (a .t) (averages (a .m .em) (a .inclm) (angles n (a .g)))))
-    (a .m)
+    (a .m .am)
     (righted (dpperOf false ls (b .t) (averages (b .m .em) (b .inclm) (angles n (b .g)))))
-    (b .m))
+    (b .m .am))
 
 -- the mean elements of what dspace gives
 unfoldable pub driftOf : Minutes → dspace.Mean → Secular → Drift
-driftOf t d g = record { t = t; inclm = d .inclm; g = g; m = mean (pow23 (xke ⊘ d .nm)) (d .em) g }
+driftOf t d g = record { t = t; inclm = d .inclm; g = g; m = mean (d .nm) (d .em) g }
 
 -- refusal 10 for neither
 unfoldable pub movedTwo : LunarSolar → Float → Minutes → dspace.Mean → Secular → Minutes → dspace.Mean → Secular → ReadyPair
@@ -59,13 +55,13 @@ movedTwo ls n t d g t2 d2 g2 = cond (noMotion (d .nm) || noMotion (d2 .nm)) Apar
 -- `p` and `p2` are the positions of the whole strides that t and t2 need
 unfoldable pub deepTwo : NearEarth → DeepSpace → Place → Minutes → Place → Minutes → ReadyPair
 deepTwo s d p t p2 t2 =
-    let g = secular s (t .0) in
-    let g2 = secular s (t2 .0) in
+    let g = secular s t in
+    let g2 = secular s t2 in
     let e = dspaceOf p (d .integrator) (d .rates) (handed s g) t in
     let e2 = dspaceOf p2 (d .integrator) (d .rates) (handed s g2) t2 in
     movedTwo (d .periodics) (s .elements .no) t e (updated g e) t2 e2 (updated g2 e2)
 
 -- over both methods
 unfoldable pub readyBy : NearEarth → Method → Place → Minutes → Place → Minutes → ReadyPair
-readyBy s methods.NearEarth p t p2 t2 = near.readyTwo s (t .0) (t2 .0)
+readyBy s methods.NearEarth p t p2 t2 = near.readyTwo s t t2
 readyBy s (methods.DeepSpace d) p t p2 t2 = deepTwo s d p t p2 t2

@@ -1,7 +1,6 @@
 // 002's sgp4 for a deep-space satellite: dspace and dpper between the steps that near Earth has too.
 ghost use mathlib.Core.Path.{_≡_};
 ghost use Rattle.sgp4.specs.DeepSpace as D;
-ghost use Rattle.sgp4.specs.Two as W;
 use elementary::sin_cos;
 use elementary::two_thirds;
 use instant::Minutes;
@@ -19,8 +18,6 @@ use state::answer::Refusal;
 use state::parts::Angles;
 use state::parts::Mean;
 use state::parts::Perturbed;
-use state::parts::Ready;
-use state::parts::ReadyPair;
 use state::parts::Secular;
 use state::secular::angles;
 use state::secular::mean;
@@ -31,15 +28,9 @@ use state::secular::secular;
 use state::sgp4::periodics;
 use wgs72::xke;
 
-const PI: f64 = 3.141592653589793;
+pub mod pairs;
 
-// What is known of a time once dspace is done: the time, and its mean elements.
-pub struct Drift {
-    pub t: Minutes,
-    pub inclm: f64,
-    pub g: Secular,
-    pub m: Mean,
-}
+const PI: f64 = 3.141592653589793;
 
 // The mean elements that dspace is handed.
 fn handed(s: NearEarth, g: Secular) -> resonance::dspace::Mean
@@ -136,14 +127,14 @@ fn anew(sinip: f64, cosip: f64) -> Terms
     }
 }
 
-fn perturbed(x: periodics::dpper::Perturbed, m: Mean) -> Answer
-    ensures { λ r. ⌜ r ≡ D.perturbed x m ⌝ }
+fn perturbed(x: periodics::dpper::Perturbed, am: f64) -> Answer
+    ensures { λ r. ⌜ r ≡ D.perturbed x am ⌝ }
 {
     if no_ellipse(x.ep) {
         return Answer::Refused(Refusal::Eccentricity);
     }
     let ip = sin_cos(x.inclp);
-    periodics(inclined(x, ip.sin, ip.cos), m, anew(ip.sin, ip.cos))
+    periodics(inclined(x, ip.sin, ip.cos), am, anew(ip.sin, ip.cos))
 }
 
 fn averaged(ls: LunarSolar, t: Minutes, n: f64, inclm: f64, g: Secular, m: Mean) -> Answer
@@ -153,7 +144,7 @@ fn averaged(ls: LunarSolar, t: Minutes, n: f64, inclm: f64, g: Secular, m: Mean)
         return Answer::Refused(Refusal::MeanElements);
     }
     let x = averages(m.em, inclm, angles(n, g));
-    perturbed(righted(dpper(ls, t, x)), m)
+    perturbed(righted(dpper(ls, t, x)), m.am)
 }
 
 fn moved(ls: LunarSolar, t: Minutes, n: f64, d: resonance::dspace::Mean, g: Secular) -> Answer
@@ -173,113 +164,7 @@ pub fn deep_space(s: NearEarth, d: DeepSpace, p: Place, t: Minutes) -> Answer
     let integrator = d.integrator;
     let rates = d.rates;
     let ls = d.periodics;
-    let g = secular(s, t.0);
+    let g = secular(s, t);
     let e = dspace(p, integrator, rates, handed(s, g), t);
     moved(ls, t, s.elements.no, e, updated(g, e))
-}
-
-// ---- Two times at once, as crate `state` has them for near Earth.
-
-fn perturbed_two(
-    x: periodics::dpper::Perturbed,
-    m: Mean,
-    x2: periodics::dpper::Perturbed,
-    m2: Mean,
-) -> ReadyPair
-    ensures { λ r. ⌜ r ≡ W.perturbedTwo x m x2 m2 ⌝ }
-{
-    if no_ellipse(x.ep) | no_ellipse(x2.ep) {
-        return ReadyPair::Apart;
-    }
-    let ip = sin_cos(x.inclp);
-    let ip2 = sin_cos(x2.inclp);
-    let p = inclined(x, ip.sin, ip.cos);
-    let k = anew(ip.sin, ip.cos);
-    let p2 = inclined(x2, ip2.sin, ip2.cos);
-    let k2 = anew(ip2.sin, ip2.cos);
-    ReadyPair::Both(
-        Ready { p, m, k },
-        Ready {
-            p: p2,
-            m: m2,
-            k: k2,
-        },
-    )
-}
-
-fn averaged_two(ls: LunarSolar, n: f64, a: Drift, b: Drift) -> ReadyPair
-    ensures { λ r. ⌜ r ≡ W.averagedTwo ls n a b ⌝ }
-{
-    let t = a.t;
-    let g = a.g;
-    let m = a.m;
-    let t2 = b.t;
-    let g2 = b.g;
-    let m2 = b.m;
-    if outside(m) | outside(m2) {
-        return ReadyPair::Apart;
-    }
-    let x = averages(m.em, a.inclm, angles(n, g));
-    let x2 = averages(m2.em, b.inclm, angles(n, g2));
-    let y = dpper(ls, t, x);
-    let y2 = dpper(ls, t2, x2);
-    perturbed_two(righted(y), m, righted(y2), m2)
-}
-
-fn moved_two(
-    ls: LunarSolar,
-    n: f64,
-    t: Minutes,
-    d: resonance::dspace::Mean,
-    g: Secular,
-    t2: Minutes,
-    d2: resonance::dspace::Mean,
-    g2: Secular,
-) -> ReadyPair
-    ensures { λ r. ⌜ r ≡ W.movedTwo ls n t d g t2 d2 g2 ⌝ }
-{
-    if no_motion(d.nm) | no_motion(d2.nm) {
-        return ReadyPair::Apart;
-    }
-    let a = two_thirds(xke() / d.nm);
-    let a2 = two_thirds(xke() / d2.nm);
-    let m = mean(a, d.em, g);
-    let m2 = mean(a2, d2.em, g2);
-    let first = Drift {
-        t,
-        inclm: d.inclm,
-        g,
-        m,
-    };
-    let second = Drift {
-        t: t2,
-        inclm: d2.inclm,
-        g: g2,
-        m: m2,
-    };
-    averaged_two(ls, n, first, second)
-}
-
-// The satellite at t and at t2, up to the long-period terms; `p` and `p2` are the positions of the
-// whole strides that these need.
-pub fn deep_two(
-    s: NearEarth,
-    d: DeepSpace,
-    p: Place,
-    t: Minutes,
-    p2: Place,
-    t2: Minutes,
-) -> ReadyPair
-    ensures { λ r. ⌜ r ≡ W.deepTwo s d p t p2 t2 ⌝ }
-{
-    let integrator = d.integrator;
-    let rates = d.rates;
-    let ls = d.periodics;
-    let g = secular(s, t.0);
-    let g2 = secular(s, t2.0);
-    let e = dspace(p, integrator, rates, handed(s, g), t);
-    let e2 = dspace(p2, integrator, rates, handed(s, g2), t2);
-    let u = updated(g, e);
-    let u2 = updated(g2, e2);
-    moved_two(ls, s.elements.no, t, e, u, t2, e2, u2)
 }

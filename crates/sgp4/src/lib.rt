@@ -1,11 +1,11 @@
 // The state of a satellite at a time: 002's sgp4 over both of its methods, as document 01's row. Each
-// function is, bit for bit, its definition in specs/, where the comments give 002's lines.
+// function is, bit for bit, its definition in specs/, where the comments give 002's lines. Any satellite
+// may be handed in; of one that was opened the row is 002's own (specs/Claims).
 ghost use mathlib.Core.Path.{_≡_};
 ghost use Rattle.sgp4.specs.Sgp4 as S;
 ghost use Rattle.sgp4.specs.Row as R;
-ghost use Rattle.sgp4.specs.Two as W;
+ghost use Rattle.sgp4.specs.Kept as K;
 use deep_space::deep_space;
-use deep_space::deep_two;
 use instant::Microseconds;
 use instant::Minutes;
 use instant::to_minutes;
@@ -16,13 +16,10 @@ use satellite::Model;
 use satellite::NearEarth;
 use satellite::Resonance;
 use state::answer::Answer;
-use state::answer::Pair;
 use state::answer::number;
-use state::parts::ReadyPair;
-use state::sgp4::pair_of;
-use state::sgp4::ready_two;
 
 pub mod deep_space;
+pub mod pairs;
 
 // A refusal number (0 when answered), position in km, velocity in km/s, and the Kepler rounds.
 pub struct Row {
@@ -36,24 +33,18 @@ pub struct Row {
     pub rounds: u8,
 }
 
-// The rows of two times.
-pub struct Rows {
-    pub first: Row,
-    pub second: Row,
-}
-
 fn state_by(s: NearEarth, method: Method, p: Place, t: Minutes) -> Answer
-    ensures { λ r. ⌜ r ≡ S.stateBy s method p t ⌝ }
+    ensures { λ r. ⌜ r ≡ K.stateByFrom s method p t ⌝ }
 {
     match method {
-        Method::NearEarth => state::sgp4::sgp4(s, t.0),
+        Method::NearEarth => state::sgp4::sgp4(s, t),
         Method::DeepSpace(d) => deep_space(s, d, p, t),
     }
 }
 
 // The state at `t`; `p` is the position of the whole strides that `t` needs.
 pub fn state_at(model: Model, p: Place, t: Minutes) -> Answer
-    ensures { λ r. ⌜ r ≡ S.stateAt model p t ⌝ }
+    ensures { λ r. ⌜ r ≡ K.stateFrom model p t ⌝ }
 {
     let near = model.near;
     let method = model.method;
@@ -120,35 +111,7 @@ fn row_of(answer: Answer) -> Row
 
 // The row of a time in range; `p` is the position of the whole strides that it needs.
 pub fn row_at(model: Model, p: Place, t: Microseconds) -> Row
-    ensures { λ r. ⌜ r ≡ R.rowAt model p (t .0) ⌝ }
+    ensures { λ r. ⌜ r ≡ K.rowFrom model p (t .0) ⌝ }
 {
     row_of(state_at(model, p, to_minutes(t)))
-}
-
-fn ready_by(s: NearEarth, method: Method, p: Place, t: Minutes, p2: Place, t2: Minutes) -> ReadyPair
-    ensures { λ r. ⌜ r ≡ W.readyBy s method p t p2 t2 ⌝ }
-{
-    match method {
-        Method::NearEarth => ready_two(s, t.0, t2.0),
-        Method::DeepSpace(d) => deep_two(s, d, p, t, p2, t2),
-    }
-}
-
-// The rows of two times in range, side by side; `p` and `p2` are the positions of the whole strides that
-// they need.
-pub fn rows_at(model: Model, p: Place, t: Microseconds, p2: Place, t2: Microseconds) -> Rows
-    ensures { λ r. ⌜ r ≡ record { first = R.rowAt model p (t .0); second = R.rowAt model p2 (t2 .0) } ⌝ }
-{
-    let near = model.near;
-    let method = model.method;
-    match pair_of(ready_by(near, method, p, to_minutes(t), p2, to_minutes(t2))) {
-        Pair::Both(a, b) => Rows {
-            first: row_of(a),
-            second: row_of(b),
-        },
-        Pair::Apart => Rows {
-            first: row_at(model, p, t),
-            second: row_at(model, p2, t2),
-        },
-    }
 }

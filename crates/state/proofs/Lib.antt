@@ -1,3 +1,5 @@
 -- Laws that belong to no one function.
 mod Rounds
+mod Ahead
+pub mod Kept
 pub mod Two

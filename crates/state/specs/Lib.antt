@@ -4,4 +4,6 @@ pub mod Periodics
 pub mod Orientation
 pub mod Answer
 pub mod Sgp4
+pub mod Ahead
+pub mod Kept
 pub mod Two

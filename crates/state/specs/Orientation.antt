@@ -11,7 +11,7 @@ use Rattle.state.specs.declared.answer.State.{State}
 
 -- 3579-3594, of the sines and cosines of su, xnode and xinc, and vkmpersec
 unfoldable pub oriented : Short → SinCos → SinCos → SinCos → Float → State
-oriented s su xnode xinc v =
+oriented short su xnode xinc v =
     let sinsu = su .sin in
     let cossu = su .cos in
     let snod = xnode .sin in
@@ -27,17 +27,17 @@ oriented s su xnode xinc v =
     let vy = xmy ⊗ cossu ⊖ snod ⊗ sinsu in
     let vz = sini ⊗ cossu in
     record {
-      rx = (s .mrt ⊗ ux) ⊗ radiusearthkm;
-      ry = (s .mrt ⊗ uy) ⊗ radiusearthkm;
-      rz = (s .mrt ⊗ uz) ⊗ radiusearthkm;
-      vx = (s .mvt ⊗ ux ⊕ s .rvdot ⊗ vx) ⊗ v;
-      vy = (s .mvt ⊗ uy ⊕ s .rvdot ⊗ vy) ⊗ v;
-      vz = (s .mvt ⊗ uz ⊕ s .rvdot ⊗ vz) ⊗ v;
+      rx = (short .mrt ⊗ ux) ⊗ radiusearthkm;
+      ry = (short .mrt ⊗ uy) ⊗ radiusearthkm;
+      rz = (short .mrt ⊗ uz) ⊗ radiusearthkm;
+      vx = (short .mvt ⊗ ux ⊕ short .rvdot ⊗ vx) ⊗ v;
+      vy = (short .mvt ⊗ uy ⊕ short .rvdot ⊗ vy) ⊗ v;
+      vz = (short .mvt ⊗ uz ⊕ short .rvdot ⊗ vz) ⊗ v;
     }
 
 -- 3573-3578 and the above
 unfoldable pub state : Short → State
-state s = oriented s (sinCos (s .su)) (sinCos (s .xnode)) (sinCos (s .xinc)) vkmpersec
+state short = oriented short (sinCos (short .su)) (sinCos (short .xnode)) (sinCos (short .xinc)) vkmpersec
 
 -- where it is false: refusal 15
 unfoldable pub finiteState : State → Bool

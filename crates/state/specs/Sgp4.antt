@@ -3,6 +3,8 @@
 use Prim.Native.Nat.{ℕ}
 use mathlib.Core.Bool.{cond}
 use lib.Ieee.{Float}
+use Rattle.elementary.specs.Trig.{sinOf, cosOf}
+use Rattle.instant.specs.declared.Minutes.{Minutes}
 use Rattle.satellite.specs.declared.NearEarth.{NearEarth}
 use Rattle.satellite.specs.declared.Terms.{Terms}
 use Rattle.state.specs.declared.parts.Secular.{Secular}
@@ -11,13 +13,12 @@ use Rattle.state.specs.declared.parts.Angles.{Angles}
 use Rattle.state.specs.declared.parts.Perturbed.{Perturbed}
 use Rattle.state.specs.declared.parts.Long.{Long}
 use Rattle.state.specs.declared.parts.Anomaly.{Anomaly}
-use Rattle.state.specs.declared.parts.Latus.{Latus}
 use Rattle.state.specs.declared.parts.Short.{Short}
 use Rattle.state.specs.declared.answer.State.{State}
 use Rattle.state.specs.declared.answer.Refusal.the-variants.{MeanMotion, MeanElements, SemiLatusRectum, Decayed, NotFinite}
 use Rattle.state.specs.declared.answer.Answer.{Answer}
 use Rattle.state.specs.declared.answer.Answer.the-variants.{Given, Refused}
-use Rattle.state.specs.Secular.{secular, noMotion, mean, outside, mended, angles}
+use Rattle.state.specs.Secular.{secular, noMotion, mean, motion, outside, mended, angles}
 use Rattle.state.specs.Kepler.{kepler}
 use Rattle.state.specs.Periodics.{longPeriod, latus, negativeLatus, plane, shortPeriod, decayed}
 use Rattle.state.specs.Orientation.{state, finiteState}
@@ -26,45 +27,45 @@ use Rattle.state.specs.Orientation.{state, finiteState}
 unfoldable pub given : State → ℕ → Answer
 given s rounds = cond (finiteState s) (Given s rounds) (Refused NotFinite)
 
--- refusal 14, then orientation, position and velocity
+-- refusal 14 (3598), then orientation, position and velocity (3573-3594)
 unfoldable pub placed : Short → ℕ → Answer
 placed s rounds = cond (decayed s) (Refused Decayed) (given (state s) rounds)
 
--- refusal 13, then the short-period terms
-unfoldable pub shortened : Perturbed → Mean → Terms → Long → Anomaly → Latus → Answer
-shortened p m k q e l =
-    cond (negativeLatus l) (Refused SemiLatusRectum)
-    (placed (shortPeriod p (m .nm) k (plane q e m l)) (e .rounds))
+-- refusal 13, then the short-period terms (3524-3565)
+unfoldable pub shortened : Perturbed → Float → Terms → Long → Anomaly → Answer
+shortened perturbed am satrec long anomaly =
+    let rectum = latus long am in
+    cond (negativeLatus rectum) (Refused SemiLatusRectum)
+    (placed (shortPeriod perturbed (motion am) satrec (plane long anomaly am rectum)) (anomaly .rounds))
 
--- from the long-period terms on
-unfoldable pub periodics : Perturbed → Mean → Terms → Answer
-periodics p m k =
-    let q = longPeriod p (m .am) k in
-    let e = kepler q in
-    shortened p m k q e (latus q (m .am))
+-- from the long-period terms on (3500-3606)
+unfoldable pub periodics : Perturbed → Float → Terms → Answer
+periodics perturbed am satrec =
+    let long = longPeriod perturbed am satrec in
+    shortened perturbed am satrec long (kepler long)
 
--- 3430, 3443-3453: a near-Earth satellite's perturbed elements are the mean ones; sin(inclm) and cos(inclm) are kept
+-- 3430-3431, 3443-3453: a near-Earth satellite's perturbed elements are the mean ones; inclm is satrec.inclo (3389)
 unfoldable pub unperturbed : NearEarth → Float → Angles → Perturbed
-unperturbed s em a =
+unperturbed satrec em a =
     record {
       ep = mended em;
-      xincp = s .elements .inclo;
+      xincp = satrec .elements .inclo;
       argpp = a .argpm;
       nodep = a .nodem;
       mp = a .mm;
-      sinip = s .kept .sinio;
-      cosip = s .kept .cosio;
+      sinip = sinOf (satrec .elements .inclo);
+      cosip = cosOf (satrec .elements .inclo);
     }
 
--- refusal 11, then the mean elements
+-- refusal 11, then the mean elements (3425-3453)
 unfoldable pub averaged : NearEarth → Secular → Mean → Answer
-averaged s g m =
+averaged satrec g m =
     cond (outside m) (Refused MeanElements)
-    (periodics (unperturbed s (m .em) (angles (s .elements .no) g)) m (s .terms))
+    (periodics (unperturbed satrec (m .em) (angles (satrec .elements .no) g)) (m .am) (satrec .terms))
 
--- refusal 10; pow(xke / nm, x2o3) is kept
-unfoldable pub sgp4 : NearEarth → Float → Answer
-sgp4 s t =
-    let g = secular s t in
-    cond (noMotion (s .elements .no)) (Refused MeanMotion)
-    (averaged s g (mean (s .kept .ao) (s .elements .ecco) g))
+-- refusal 10 (3415), of nm, which is satrec.no (3387); em is satrec.ecco (3388)
+unfoldable pub sgp4 : NearEarth → Minutes → Answer
+sgp4 satrec tsince =
+    let g = secular satrec tsince in
+    cond (noMotion (satrec .elements .no)) (Refused MeanMotion)
+    (averaged satrec g (mean (satrec .elements .no) (satrec .elements .ecco) g))

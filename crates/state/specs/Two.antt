@@ -2,7 +2,7 @@
 -- itself. Definitions only.
 use Prim.Native.Nat.{ℕ}
 use mathlib.Core.Bool.{cond, _||_}
-use lib.Ieee.{Float}
+use Rattle.instant.specs.declared.Minutes.{Minutes}
 use Rattle.satellite.specs.declared.NearEarth.{NearEarth}
 use Rattle.state.specs.declared.parts.Secular.{Secular}
 use Rattle.state.specs.declared.parts.Mean.{Mean}
@@ -13,11 +13,13 @@ use Rattle.state.specs.declared.parts.ReadyPair.{ReadyPair}
 use Rattle.state.specs.declared.parts.ReadyPair.the-variants as ready
 use Rattle.state.specs.declared.answer.Pair.{Pair}
 use Rattle.state.specs.declared.answer.Pair.the-variants.{Both, Apart}
-use Rattle.state.specs.Secular.{secular, noMotion, mean, outside, angles}
+use Rattle.state.specs.Secular.{secular, noMotion, outside, angles}
 use Rattle.state.specs.Kepler.{kepler}
-use Rattle.state.specs.Periodics.{longPeriod, latus, negativeLatus, plane, shortPeriod, decayed}
+use Rattle.state.specs.Periodics.{longPeriod, latus, negativeLatus, shortPeriod, decayed}
 use Rattle.state.specs.Orientation.{state}
-use Rattle.state.specs.Sgp4.{given, unperturbed}
+use Rattle.state.specs.Sgp4.{given}
+use Rattle.state.specs.Ahead.{aheadOf, planeFrom}
+use Rattle.state.specs.Kept.{meanFrom, unperturbedFrom}
 
 -- refusal 14 for neither, then orientation, position and velocity
 unfoldable pub placedTwo : Short → ℕ → Short → ℕ → Pair
@@ -28,16 +30,17 @@ unfoldable pub shortenedTwo : Solved → Solved → Pair
 shortenedTwo a b =
     cond (negativeLatus (a .l) || negativeLatus (b .l)) Apart
     (placedTwo
-    (shortPeriod (a .p) (a .m .nm) (a .k) (plane (a .q) (a .e) (a .m) (a .l)))
+    (shortPeriod (a .p) (a .a .nm) (a .k) (planeFrom (a .q) (a .e) (a .am) (a .l) (a .a)))
     (a .e .rounds)
-    (shortPeriod (b .p) (b .m .nm) (b .k) (plane (b .q) (b .e) (b .m) (b .l)))
+    (shortPeriod (b .p) (b .a .nm) (b .k) (planeFrom (b .q) (b .e) (b .am) (b .l) (b .a)))
     (b .e .rounds))
 
 -- Kepler's equation, solved
 unfoldable pub solvedOf : Ready → Solved
 solvedOf a =
-    let q = longPeriod (a .p) (a .m .am) (a .k) in
-    record { p = a .p; m = a .m; k = a .k; q = q; e = kepler q; l = latus q (a .m .am) }
+    let q = longPeriod (a .p) (a .am) (a .k) in
+    let l = latus q (a .am) in
+    record { p = a .p; am = a .am; k = a .k; q = q; e = kepler q; l = l; a = aheadOf (a .am) l }
 
 -- from the long-period terms on
 unfoldable pub periodicsTwo : Ready → Ready → Pair
@@ -49,16 +52,16 @@ pairOf ready.Apart = Apart
 
 -- a near-Earth satellite's mean elements, made ready
 unfoldable pub readyOf : NearEarth → Secular → Mean → Ready
-readyOf s g m = record { p = unperturbed s (m .em) (angles (s .elements .no) g); m = m; k = s .terms }
+readyOf s g m = record { p = unperturbedFrom s (m .em) (angles (s .elements .no) g); am = m .am; k = s .terms }
 
 -- refusal 11 for neither
 unfoldable pub averagedTwo : NearEarth → Secular → Mean → Secular → Mean → ReadyPair
 averagedTwo s g m g2 m2 = cond (outside m || outside m2) ready.Apart (ready.Both (readyOf s g m) (readyOf s g2 m2))
 
 -- refusal 10 for neither
-unfoldable pub readyTwo : NearEarth → Float → Float → ReadyPair
+unfoldable pub readyTwo : NearEarth → Minutes → Minutes → ReadyPair
 readyTwo s t t2 =
     let g = secular s t in
     let g2 = secular s t2 in
     cond (noMotion (s .elements .no)) ready.Apart
-    (averagedTwo s g (mean (s .kept .ao) (s .elements .ecco) g) g2 (mean (s .kept .ao) (s .elements .ecco) g2))
+    (averagedTwo s g (meanFrom (s .kept .ao) (s .elements .ecco) g) g2 (meanFrom (s .kept .ao) (s .elements .ecco) g2))

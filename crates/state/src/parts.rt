@@ -11,11 +11,9 @@ pub struct Secular {
     pub templ: f64,
 }
 
-// The mean elements; root is the square root of am.
+// The mean semi-major axis and eccentricity.
 pub struct Mean {
     pub am: f64,
-    pub root: f64,
-    pub nm: f64,
     pub em: f64,
 }
 
@@ -40,7 +38,7 @@ pub struct Perturbed {
 // What the long-period terms begin with.
 pub struct Ready {
     pub p: Perturbed,
-    pub m: Mean,
+    pub am: f64,
     pub k: Terms,
 }
 
@@ -67,9 +65,17 @@ pub struct Anomaly {
     pub rounds: u8,
 }
 
-// The semi-latus rectum and its root, and the root of 1 - el2.
+// The semi-latus rectum, with el2, of which it is made.
 pub struct Latus {
+    pub el2: f64,
     pub pl: f64,
+}
+
+// What does not wait for Kepler's equation and is begun before it: the roots of am, pl and 1 - el2, and
+// the mean motion nm of am.
+pub struct Ahead {
+    pub root: f64,
+    pub nm: f64,
     pub rootpl: f64,
     pub betal: f64,
 }
@@ -77,11 +83,12 @@ pub struct Latus {
 // What is known of a time once Kepler's equation is solved.
 pub struct Solved {
     pub p: Perturbed,
-    pub m: Mean,
+    pub am: f64,
     pub k: Terms,
     pub q: Long,
     pub e: Anomaly,
     pub l: Latus,
+    pub a: Ahead,
 }
 
 // Position and velocity in the orbit's plane.

@@ -1,10 +1,11 @@
 // 002's sgp4: the long- and short-period terms.
 ghost use mathlib.Core.Path.{_≡_};
+ghost use Rattle.state.specs.Ahead as W;
 ghost use Rattle.state.specs.Periodics as P;
+use crate::parts::Ahead;
 use crate::parts::Anomaly;
 use crate::parts::Latus;
 use crate::parts::Long;
-use crate::parts::Mean;
 use crate::parts::Perturbed;
 use crate::parts::Plane;
 use crate::parts::Short;
@@ -28,15 +29,30 @@ pub fn long_period(p: Perturbed, am: f64, k: Terms) -> Long
     Long { axnl, aynl, u }
 }
 
-// Of the short-period quantities those that do not wait for Kepler's equation.
 pub fn latus(q: Long, am: f64) -> Latus
     ensures { λ r. ⌜ r ≡ P.latus q am ⌝ }
 {
     let el2 = q.axnl * q.axnl + q.aynl * q.aynl;
-    let pl = am * (1.0 - el2);
-    let rootpl = sqrt(pl);
-    let betal = sqrt(1.0 - el2);
-    Latus { pl, rootpl, betal }
+    Latus {
+        el2,
+        pl: am * (1.0 - el2),
+    }
+}
+
+// What does not wait for Kepler's equation. The root of am serves nm and the radial velocity.
+pub fn ahead(am: f64, l: Latus) -> Ahead
+    ensures { λ r. ⌜ r ≡ W.aheadOf am l ⌝ }
+{
+    let root = sqrt(am);
+    let nm = xke() / (am * root);
+    let rootpl = sqrt(l.pl);
+    let betal = sqrt(1.0 - l.el2);
+    Ahead {
+        root,
+        nm,
+        rootpl,
+        betal,
+    }
 }
 
 // Refusal 13.
@@ -46,18 +62,18 @@ pub fn negative_latus(l: Latus) -> bool
     l.pl < 0.0
 }
 
-pub fn plane(q: Long, k: Anomaly, m: Mean, l: Latus) -> Plane
-    ensures { λ r. ⌜ r ≡ P.plane q k m l ⌝ }
+pub fn plane(q: Long, e: Anomaly, am: f64, l: Latus, a: Ahead) -> Plane
+    ensures { λ r. ⌜ r ≡ W.planeFrom q e am l a ⌝ }
 {
-    let ecose = q.axnl * k.coseo1 + q.aynl * k.sineo1;
-    let esine = q.axnl * k.sineo1 - q.aynl * k.coseo1;
-    let rl = m.am * (1.0 - ecose);
-    let rdotl = m.root * esine / rl;
-    let rvdotl = l.rootpl / rl;
-    let betal = l.betal;
+    let ecose = q.axnl * e.coseo1 + q.aynl * e.sineo1;
+    let esine = q.axnl * e.sineo1 - q.aynl * e.coseo1;
+    let rl = am * (1.0 - ecose);
+    let rdotl = a.root * esine / rl;
+    let rvdotl = a.rootpl / rl;
+    let betal = a.betal;
     let temp = esine / (1.0 + betal);
-    let sinu = m.am / rl * (k.sineo1 - q.aynl - q.axnl * temp);
-    let cosu = m.am / rl * (k.coseo1 - q.axnl + q.aynl * temp);
+    let sinu = am / rl * (e.sineo1 - q.aynl - q.axnl * temp);
+    let cosu = am / rl * (e.coseo1 - q.axnl + q.aynl * temp);
     let su = atan2(sinu, cosu);
     let sin2u = (cosu + cosu) * sinu;
     let cos2u = 1.0 - 2.0 * sinu * sinu;

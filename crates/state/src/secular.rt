@@ -1,5 +1,6 @@
 // 002's sgp4: secular gravity and drag, and the mean elements.
 ghost use mathlib.Core.Path.{_≡_};
+ghost use Rattle.state.specs.Kept as K;
 ghost use Rattle.state.specs.Secular as S;
 use crate::parts::Angles;
 use crate::parts::Mean;
@@ -7,10 +8,9 @@ use crate::parts::Secular;
 use elementary::cos;
 use elementary::rem_turn;
 use elementary::sin;
-use elementary::sqrt;
+use instant::Minutes;
 use near_earth::powers::pow3;
 use satellite::NearEarth;
-use wgs72::xke;
 
 fn gravity(s: NearEarth, t: f64) -> Secular
     ensures { λ r. ⌜ r ≡ S.gravity s t ⌝ }
@@ -64,9 +64,10 @@ fn dragged(s: NearEarth, t: f64, g: Secular) -> Secular
     higher_drag(s, t, g, temp, mm, sin(mm))
 }
 
-pub fn secular(s: NearEarth, t: f64) -> Secular
-    ensures { λ r. ⌜ r ≡ S.secular s t ⌝ }
+pub fn secular(s: NearEarth, tsince: Minutes) -> Secular
+    ensures { λ r. ⌜ r ≡ S.secular s tsince ⌝ }
 {
+    let t = tsince.0;
     let g = gravity(s, t);
     if s.isimp {
         return g;
@@ -82,17 +83,12 @@ pub fn no_motion(nm: f64) -> bool
 }
 
 // Of pow(xke / nm, x2o3) and em.
-pub fn mean(a: f64, em: f64, s: Secular) -> Mean
-    ensures { λ r. ⌜ r ≡ S.mean a em s ⌝ }
+pub fn mean(a: f64, em: f64, g: Secular) -> Mean
+    ensures { λ r. ⌜ r ≡ K.meanFrom a em g ⌝ }
 {
-    let am = a * s.tempa * s.tempa;
-    let root = sqrt(am);
-    let nm = xke() / (am * root);
     Mean {
-        am,
-        root,
-        nm,
-        em: em - s.tempe,
+        am: a * g.tempa * g.tempa,
+        em: em - g.tempe,
     }
 }
 

@@ -271,6 +271,12 @@ tooShort n m = ltb n 83 || ltb m 4
 unfoldable pub loadingOf : List Float → List ℕ → Loading
 loadingOf ns ms = cond (tooShort (length ns) (length ms)) RoomTooShort (Loaded (satelliteOf ns ms))
 
+-- document 01's number of each answer; nothing comes back with it
+abbrev pub loadingNumber : Loading → ℕ
+loadingNumber (Loaded s) = 0
+loadingNumber RoomTooShort = 17
+
+-- what storing answers has the same number
 unfoldable pub storeRefusal : ℕ → ℕ → ℕ
 storeRefusal n m = cond (tooShort n m) 17 0
 

@@ -35,6 +35,18 @@ pub enum Loading {
     RoomTooShort,
 }
 
+impl Loading {
+    // Document 01's number of the answer, 0 where there is a satellite.
+    pub fn number(self) -> u8
+        ensures { λ n. ⌜ n ≡ S.loadingNumber self ⌝ }
+    {
+        match self {
+            Loading::Loaded(_) => 0,
+            Loading::RoomTooShort => 17,
+        }
+    }
+}
+
 fn elements_at(numbers: &[f64]) -> Elements
     requires { ⌜ 83 ≤ length (now numbers) ⌝ }
     ensures { λ r. ⌜ r ≡ S.elementsAt (now (numbers .entry)) ⌝ }

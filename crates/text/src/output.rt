@@ -7,9 +7,9 @@ ghost use mathlib.Core.Bool.{not};
 ghost use Prim.Native.Nat.{_≤_, _<_};
 ghost use lib.Dec.{T};
 ghost use lib.Ieee.{isNan, toBits, binary64};
-ghost use lib.IntN.{natAbs};
 ghost use lib.ListN.{length, drop};
 ghost use Rattle.text.specs.Output.{decimal, signed, glyph, places, pattern, line, Put};
+use integers::magnitude;
 
 pub fn put_byte(out: &mut [u8], at: usize, byte: u8) -> usize
     ensures { λ r. ⌜ Put (now (out .entry)) at (byte ∷ []) (now (out .exit)) r ⌝ }
@@ -59,17 +59,6 @@ pub fn put_decimal(out: &mut [u8], at: usize, n: u64) -> usize
     let mut digits = [0u8; 20];
     let i = spell_decimal(n, &mut digits);
     put_bytes(out, at, &digits[i..20])
-}
-
-// The complement, plus one, is the magnitude of a negative number, the least one too.
-fn magnitude(v: i64) -> u64
-    ensures { λ r. ⌜ r ≡ natAbs v ⌝ }
-{
-    if v < 0 {
-        let complement = !v;
-        return complement as u64 + 1;
-    }
-    v as u64
 }
 
 pub fn put_signed(out: &mut [u8], at: usize, v: i64) -> usize

@@ -12,7 +12,7 @@ use Rattle.tle.specs.Layout.{layout1, layout2}
 use Rattle.tle.specs.Number.{field, minus, signed}
 use Rattle.tle.specs.Legal.{inclinationInRange, angleInRange, motionInRange, inRanges, designatorFits, scaledFits, inLayout, legal}
 use Rattle.tle.specs.Read.{unless, verdictOf, pairOf, numberAt, yearOf, minusAt, ndotAt, scaledAt, motionAt, fieldsOf, formed, formOf, rangesOf, ranged, readOf}
-use Rattle.tle.specs.Accepted.{AcceptedAreLegal, EpochsInside}
+use Rattle.tle.specs.Claims.{AcceptedAreLegal, EpochsInside}
 use Rattle.tle.specs.declared.Record.{Record}
 use Rattle.tle.specs.declared.Line.the-variants.{One}
 use Rattle.tle.specs.declared.Field.the-variants.{Day, Inclination, Node, Perigee, Anomaly, Motion}

@@ -8,12 +8,12 @@ use native.Mathlib.Omega.{arith}
 use borrow.Author.Tests.{eqb-true, eqb-false}
 use lib.Dec.{eqb, ltb}
 use lib.ListN.{length, getD}
-use Rattle.tle.specs.Layout.{agreed, layout1, layout2}
+use Rattle.tle.specs.Layout.{agreed, layout1, layout2, layoutOf}
 use Rattle.tle.specs.Number.{digitOf}
 use Rattle.tle.specs.Read.{unless, then, checksumOf, verdictOf, numberAt, pairOf, fieldsOf, formed, formOf, rangesOf, ranged, readOf}
 use Rattle.instant.specs.Calendar.{dayInRange}
 use Rattle.tle.specs.Legal.{inclinationInRange, angleInRange, motionInRange}
-use Rattle.tle.specs.Least.{FirstFault, layoutOf, lineOf, FirstColumn}
+use Rattle.tle.specs.Claims.{FirstFault, lineOf, FirstColumn}
 use Rattle.tle.specs.declared.Record.{Record}
 use Rattle.tle.specs.declared.Line.{Line}
 use Rattle.tle.specs.declared.Line.the-variants.{One, Two}

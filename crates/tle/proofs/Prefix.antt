@@ -7,7 +7,7 @@ use native.Mathlib.Omega.{arith}
 use lib.Dec.{T, eqb}
 use lib.ListN.{length, take}
 use Rattle.tle.specs.Layout.{fits, agreed, layout1, layout2}
-use Rattle.tle.specs.Least.{FirstFault}
+use Rattle.tle.specs.Claims.{FirstFault}
 
 -- a byte that may stand in a column
 unfoldable fill : ℕ → Bool → ℕ

@@ -11,20 +11,21 @@ use mathlib.Core.Path.{_≡_}
 use mathlib.Core.List.{List, [], _∷_}
 use mathlib.Core.Bool.{Bool, cond, true, not, _&&_, _||_}
 use Prim.Native.Char.{code}
-use Prim.Native.String.{String}
 use lib.Dec.{ltb, leb, eqb}
 use lib.ListN.{length}
-
--- the bytes of a text
-abbrev pub bytes : String → List ℕ
-bytes String.[] = []
-bytes (String._∷_ c s) = code c ∷ bytes s
+use Rattle.text.specs.Output.{bytes}
+use Rattle.tle.specs.declared.Line.{Line}
+use Rattle.tle.specs.declared.Line.the-variants.{One, Two}
 
 abbrev pub layout1 : List ℕ
 layout1 = bytes "1 DDDDDC RffffLll DDDDD.DDDDDDDD S.DDDDDDDD SDDDDDED SDDDDDED D RrrDD"
 
 abbrev pub layout2 : List ℕ
 layout2 = bytes "2 DDDDD RrD.DDDD RrD.DDDD DDDDDDD RrD.DDDD RrD.DDDD RD.DDDDDDDDRrrrDD"
+
+abbrev pub layoutOf : Line → List ℕ
+layoutOf One = layout1
+layoutOf Two = layout2
 
 abbrev pub isBlank : ℕ → Bool
 isBlank b = eqb b (code " ")

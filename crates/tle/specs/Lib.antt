@@ -3,6 +3,5 @@ pub mod Number
 pub mod Legal
 pub mod Refusals
 pub mod Read
-pub mod Least
-pub mod Accepted
+pub mod Claims
 pub mod Examples

@@ -63,6 +63,12 @@ pairOf line1 line2 =
 unfoldable pub classOf : ℕ → Class
 classOf b = cond (eqb b (code "U")) Unclassified (cond (eqb b (code "C")) Classified Secret)
 
+-- the letter of a class
+unfoldable pub letter : Class → ℕ
+letter Unclassified = code "U"
+letter Classified = code "C"
+letter Secret = code "S"
+
 -- the designator in columns 10 to 17
 unfoldable pub designatorAt : List ℕ → Designator
 designatorAt line = cond (isBlank (getD line 9 0)) Blank (Piece (field 9 5 line) (getD line 14 0) (getD line 15 0) (getD line 16 0))

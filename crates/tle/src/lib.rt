@@ -2,6 +2,7 @@
 
 ghost use mathlib.Core.Path.{_≡_};
 ghost use Rattle.instant.specs.Calendar.{epochOf};
+ghost use Rattle.tle.specs.Read.{letter};
 ghost use Rattle.tle.specs.Refusals.{numberOf};
 use instant::Epoch;
 use instant::epoch_instant;
@@ -10,7 +11,6 @@ mod limits;
 mod reader;
 
 pub use limits::legal;
-pub use limits::magnitude;
 pub use reader::checksum;
 pub use reader::read;
 
@@ -18,6 +18,19 @@ pub enum Class {
     Unclassified,
     Classified,
     Secret,
+}
+
+impl Class {
+    // The class as it stands in column 8 of line 1.
+    pub fn letter(self) -> u8
+        ensures { λ b. ⌜ b ≡ letter self ⌝ }
+    {
+        match self {
+            Class::Unclassified => b'U',
+            Class::Classified => b'C',
+            Class::Secret => b'S',
+        }
+    }
 }
 
 // The international designator: eight blanks, or launch year and number (five digits) and three

@@ -1,13 +1,13 @@
 // Which records are inside the layout and the ranges (document 01, "The two lines").
 
 ghost use mathlib.Core.Path.{_≡_};
-ghost use lib.IntN.{natAbs};
 ghost use Rattle.tle.specs.Layout.{isLetter};
 ghost use Rattle.tle.specs.Legal.{inclinationInRange, angleInRange, motionInRange, inRanges, pieceFits, designatorFits, scaledFits, inLayout, legal};
 use super::Designator;
 use super::Record;
 use super::Scaled;
 use instant::day_in_range;
+use integers::magnitude;
 
 pub fn inclination_in_range(n: u64) -> bool
     ensures { λ r. ⌜ r ≡ inclinationInRange n ⌝ }
@@ -59,18 +59,6 @@ fn designator_fits(d: Designator) -> bool
     match d {
         Designator::Blank => true,
         Designator::Piece { launch, a, b, c } => piece_fits(launch, a, b, c),
-    }
-}
-
-// How far a number lies from 0, for every i64: one more than a negative number's complement.
-pub fn magnitude(x: i64) -> u64
-    ensures { λ r. ⌜ r ≡ natAbs x ⌝ }
-{
-    if x < 0 {
-        let y = !x;
-        y as u64 + 1
-    } else {
-        x as u64
     }
 }
 

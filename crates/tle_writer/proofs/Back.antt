@@ -6,15 +6,16 @@ use mathlib.Core.Bool.{Bool, true, false, cond, _&&_, _||_}
 use native.Mathlib.Omega.{arith}
 use borrow.Author.Tests.{ltb-true, ne-eqb}
 use lib.Dec.{eqb, ltb}
-use Rattle.tle.specs.Layout.{bytes, isLetter, isBlank}
+use Rattle.text.specs.Output.{bytes}
+use Rattle.tle.specs.Layout.{isLetter, isBlank}
 use Rattle.tle.specs.Number.{valueOn}
 use Rattle.tle.specs.Legal.{designatorFits}
-use Rattle.tle.specs.Read.{numberAt, designatorAt, ndotAt, scaledAt, dayAt, motionAt, degreesAt, fieldsOf}
+use Rattle.tle.specs.Read.{numberAt, designatorAt, ndotAt, scaledAt, dayAt, motionAt, degreesAt, fieldsOf, letter}
 use Rattle.tle.specs.declared.Record.{Record}
 use Rattle.tle.specs.declared.Designator.{Designator}
 use Rattle.tle.specs.declared.Designator.the-variants.{Blank, Piece}
 use Rattle.tle.specs.declared.Line.the-variants.{One, Two}
-use Rattle.tle_writer.specs.Field.{place, lead, digits, right, dayPlaces, fraction, scaled, letter, designator}
+use Rattle.tle_writer.specs.Field.{place, lead, digits, right, dayPlaces, fraction, scaled, designator}
 use Rattle.tle_writer.specs.Lines.{join, bodyOf, closedOf, lineOf}
 use Rattle.tle_writer.proofs.Bodies.{zero-of, launch-of, first-of, second-of, third-of, places}
 use Rattle.tle_writer.proofs.Facts.{Facts, both, day-below}

@@ -3,12 +3,13 @@ use Prim.Native.Nat.{ℕ, _+_, _%_}
 use mathlib.Core.Path.{_≡_, refl}
 use mathlib.Core.List.{[], _∷_, _++_}
 use lib.ListN.{replicate}
-use Rattle.tle.specs.Layout.{bytes}
+use Rattle.text.specs.Output.{bytes}
+use Rattle.tle.specs.Read.{letter}
 use Rattle.tle.specs.declared.Record.{Record}
 use Rattle.tle.specs.declared.Designator.{Designator}
 use Rattle.tle.specs.declared.Designator.the-variants.{Blank, Piece}
 use Rattle.tle.specs.declared.Line.the-variants.{One, Two}
-use Rattle.tle_writer.specs.Field.{place, lead, digits, right, pointed, dayPlaces, fraction, scaled, letter, designator}
+use Rattle.tle_writer.specs.Field.{place, lead, digits, right, pointed, dayPlaces, fraction, scaled, designator}
 use Rattle.tle_writer.specs.Lines.{join, bodyOf}
 use Rattle.tle_writer.specs.Over.{over}
 

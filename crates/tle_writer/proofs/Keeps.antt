@@ -8,14 +8,16 @@ use borrow.Author.Tests.{eqb-true, eq-eqb, ne-eqb, le-leb, leb-true}
 use lib.Dec.{eqb, leb, ltb}
 use lib.IntN.{ℤ, pos, negsuc, natAbs}
 use lib.ListN.{length}
-use Rattle.tle.specs.Layout.{bytes, isDigit, isLetter, isBlank, fits, agreed}
+use Rattle.text.specs.Output.{bytes}
+use Rattle.tle.specs.Layout.{isDigit, isLetter, isBlank, fits, agreed}
 use Rattle.tle.specs.Legal.{designatorFits}
+use Rattle.tle.specs.Read.{letter}
 use Rattle.tle.specs.declared.Class.{Class}
 use Rattle.tle.specs.declared.Class.the-variants.{Unclassified, Classified, Secret}
 use Rattle.tle.specs.declared.Designator.{Designator}
 use Rattle.tle.specs.declared.Designator.the-variants.{Blank, Piece}
 use Rattle.tle.specs.declared.Scaled.{Scaled}
-use Rattle.tle_writer.specs.Field.{place, lead, right, digits, pointed, dayPlaces, sign, fraction, exponentSign, scaled, letter, designator}
+use Rattle.tle_writer.specs.Field.{place, lead, right, digits, pointed, dayPlaces, sign, fraction, exponentSign, scaled, designator}
 use Rattle.tle_writer.proofs.Facts.{both}
 
 infixr 20 _then_

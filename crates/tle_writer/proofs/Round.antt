@@ -8,7 +8,8 @@ use borrow.Author.Tests.{eq-eqb, le-leb, lt-ltb}
 use lib.Dec.{eqb}
 use lib.ListN.{length, take, getD}
 use lib.Seq.{take-at, getD-at}
-use Rattle.tle.specs.Layout.{bytes, layout1, layout2, agreed, Lawful}
+use Rattle.text.specs.Output.{bytes}
+use Rattle.tle.specs.Layout.{layout1, layout2, layoutOf, agreed}
 use Rattle.tle.specs.Number.{digitOf, sum}
 use Rattle.tle.specs.Legal.{legal}
 use Rattle.tle.specs.Read.{verdictOf, numberAt, pairOf, formOf, rangesOf, readOf}
@@ -20,16 +21,13 @@ use Rattle.tle.specs.declared.Form.the-variants as form
 use Rattle.tle.specs.declared.Reading.the-variants as reading
 use Rattle.tle_writer.specs.Field.{place, lead, digits}
 use Rattle.tle_writer.specs.Lines.{join, pieces1, pieces2, bodyOf, closedOf, lineOf}
+use Rattle.tle_writer.specs.Claims.{WrittenAreLawful, ReturnTrip}
 use Rattle.tle_writer.proofs.Bodies.{places}
 use Rattle.tle_writer.proofs.Writes.{length-line}
 use Rattle.tle_writer.proofs.Facts.{Facts, facts}
 use Rattle.tle_writer.proofs.Values.{place-value}
 use Rattle.tle_writer.proofs.Back.{fields-back}
 use Rattle.tle_writer.proofs.Keeps.{Field, end, _then_, _⊳_, none, blank, keeps-agreed, alls, leads, digits-keep, right-keep, pointed-keep, day-keeps, fraction-keeps, scaled-keeps, letter-keeps, designator-keeps}
-
-abbrev pub layoutOf : Line → List ℕ
-layoutOf One = layout1
-layoutOf Two = layout2
 
 start1 : Field (bytes "1 ") (bytes "1 ")
 start1 a = refl then refl then end
@@ -67,8 +65,7 @@ agreed-all : (which : Line) (r : Record) → Facts r → agreed (layoutOf which)
 agreed-all One r k = keeps-agreed (keeps1 r k true)
 agreed-all Two r k = keeps-agreed (keeps2 r true)
 
--- "the two lines written are lawful"
-pub lawful : (which : Line) (r : Record) → legal r ≡ true → Lawful (layoutOf which) (lineOf which r)
+pub lawful : WrittenAreLawful
 lawful One r h = (length-line One r, agreed-all One r (facts r h))
 lawful Two r h = (length-line Two r, agreed-all Two r (facts r h))
 
@@ -120,7 +117,6 @@ in-ranges r k =
       lt-ltb 0 (r .motion) (k .turns),
     )
 
--- "read of them gives that record"
-pub read-back : (r : Record) → legal r ≡ true → readOf (lineOf One r) (lineOf Two r) ≡ reading.Record r
+pub read-back : ReturnTrip
 unfolding readOf formOf
 read-back r h = rw (pair-lawful r h, fields-back r (facts r h)) (in-ranges r (facts r h))

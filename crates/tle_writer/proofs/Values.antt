@@ -10,11 +10,11 @@ use lib.Dec.{eqb, leb, ltb}
 use lib.IntN.{ℤ, pos, negsuc, natAbs}
 use Rattle.tle.specs.Number.{digitOf, valueOn, minus, signed}
 use Rattle.tle.specs.Legal.{scaledFits}
-use Rattle.tle.specs.Read.{classOf, yearOf}
+use Rattle.tle.specs.Read.{classOf, yearOf, letter}
 use Rattle.tle.specs.declared.Class.{Class}
 use Rattle.tle.specs.declared.Class.the-variants.{Unclassified, Classified, Secret}
 use Rattle.tle.specs.declared.Scaled.{Scaled}
-use Rattle.tle_writer.specs.Field.{place, lead, digits, right, sign, exponentSign, letter}
+use Rattle.tle_writer.specs.Field.{place, lead, digits, right, sign, exponentSign}
 use Rattle.tle_writer.proofs.Facts.{both}
 
 on-append : (a : ℕ) (xs ys : List ℕ) → valueOn a (xs ++ ys) ≡ valueOn (valueOn a xs) ys

@@ -1,13 +1,14 @@
 -- A line closed by its checksum, and the answers of writing.
 use Prim.Native.Nat.{ℕ, _+_, _%_, _<_, _≤_}
 use mathlib.Core.Path.{_≡_, refl, ap, _∙_}
-use mathlib.Core.List.{List, [], _++_, append-nil}
+use mathlib.Core.List.{List, _++_, append-nil}
 use mathlib.Core.Bool.{true, false}
 use native.Mathlib.Omega.{arith}
 use borrow.Author.Tests.{le-leb, lt-leb}
+use denote.Ref.{RefT, now, at-last}
 use lib.ListN.{length, take, drop, drop-of-length-le}
 use lib.Seq.{drop-drop, take-at}
-use Rattle.tle.specs.Layout.{bytes}
+use Rattle.text.specs.Output.{bytes}
 use Rattle.tle.specs.Number.{sum}
 use Rattle.tle.specs.Legal.{legal}
 use Rattle.tle.specs.declared.Record.{Record}
@@ -16,7 +17,8 @@ use Rattle.tle.specs.declared.Line.the-variants.{One, Two}
 use Rattle.tle_writer.specs.Field.{lead, digits}
 use Rattle.tle_writer.specs.Lines.{join, bodyOf, closedOf, lineOf}
 use Rattle.tle_writer.specs.Over.{over}
-use Rattle.tle_writer.specs.Write.{numberOf, writingOf, writtenOver, part, partOf}
+use Rattle.tle_writer.specs.Write.{numberOf, writingOf, after, writtenOver, Handed}
+use Rattle.tle_writer.specs.Claims.{LinesLong}
 use Rattle.tle_writer.specs.declared.Writing.{Writing}
 use Rattle.tle_writer.specs.declared.Writing.the-variants.{Written, Illegal, Short}
 use Rattle.tle_writer.proofs.Bodies.{places}
@@ -43,29 +45,26 @@ pub written : (r : Record) (which : Line) (out : List ℕ) → legal r ≡ true 
 unfolding writingOf writtenOver
 written r which out e h = (rw (e, le-leb 69 (length out) h), rw (e, le-leb 69 (length out) h))
 
-pub length-line : (which : Line) (r : Record) → length (lineOf which r) ≡ 69
+pub length-line : LinesLong
 unfolding lineOf closedOf bodyOf join lead
 length-line One r = rw (places (r .designator))
 length-line Two r = refl
-
-none : (w : Writing) (line : List ℕ) → (numberOf w ≡ 0 → ⊥) → [] ≡ part w line
-none Written line h = absurd (h refl)
-none Illegal line h = refl
-none Short line h = refl
-
--- the bytes handed back after a refusal, and after none
-pub nothing : (r : Record) (which : Line) (out : List ℕ) → (numberOf (writingOf r out) ≡ 0 → ⊥) → [] ≡ partOf r which out
-unfolding partOf
-nothing r which out h = none (writingOf r out) (lineOf which r) h
-
-pub handed : (r : Record) (which : Line) (out : List ℕ) → writingOf r out ≡ Written → lineOf which r ≡ partOf r which out
-unfolding partOf
-handed r which out w = rw w
 
 pub zero-written : (w : Writing) → numberOf w ≡ 0 → w ≡ Written
 zero-written Written h = refl
 zero-written Illegal h = absurd (omega arith)
 zero-written Short h = absurd (omega arith)
+
+-- a refusal leaves the room m as it was, and hands it back
+refused-as : (w : Writing) (line m : List ℕ) (out : RefT (List ℕ)) → (numberOf w ≡ 0 → ⊥) → m ≡ after w line (now out) → Handed w line out (at-last out m)
+refused-as Written line m out h e = absurd (h refl)
+refused-as Illegal line m out h e = ap (at-last out) e
+refused-as Short line m out h e = ap (at-last out) e
+
+pub refused : (r : Record) (which : Line) (m : List ℕ) (out : RefT (List ℕ)) → (numberOf (writingOf r (now out)) ≡ 0 → ⊥)
+    → m ≡ writtenOver r which (now out) → Handed (writingOf r (now out)) (lineOf which r) out (at-last out m)
+unfolding writtenOver
+refused r which m out h e = refused-as (writingOf r (now out)) (lineOf which r) m out h e
 
 -- the room m after a line was written into out
 module _ (r : Record) (which : Line) (out m : List ℕ) (e : m ≡ writtenOver r which out) (w : writingOf r out ≡ Written) where

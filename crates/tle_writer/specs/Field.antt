@@ -5,9 +5,7 @@ use mathlib.Core.Bool.{cond}
 use Prim.Native.Char.{code}
 use lib.Dec.{eqb}
 use lib.IntN.{ℤ, pos, negsuc, natAbs}
-use Rattle.tle.specs.Layout.{bytes}
-use Rattle.tle.specs.declared.Class.{Class}
-use Rattle.tle.specs.declared.Class.the-variants.{Unclassified, Classified, Secret}
+use Rattle.text.specs.Output.{bytes}
 use Rattle.tle.specs.declared.Designator.{Designator}
 use Rattle.tle.specs.declared.Designator.the-variants.{Blank, Piece}
 use Rattle.tle.specs.declared.Scaled.{Scaled}
@@ -57,12 +55,6 @@ abbrev pub scaled : Scaled → List ℕ
 scaled s =
     (sign (s .mantissa) ∷ []) ++ digits 5 (natAbs (s .mantissa))
     ++ (exponentSign (s .exponent) ∷ []) ++ digits 1 (natAbs (s .exponent))
-
--- U, C or S
-unfoldable pub letter : Class → ℕ
-letter Unclassified = code "U"
-letter Classified = code "C"
-letter Secret = code "S"
 
 -- eight blanks, or five digits and three places of letters or blanks
 unfoldable pub designator : Designator → List ℕ

@@ -1,12 +1,13 @@
 -- Document 01, "The two lines": the bytes of each line, in the order of its tables.
 use Prim.Native.Nat.{ℕ, _%_}
 use mathlib.Core.List.{List, [], _∷_, _++_}
-use Rattle.tle.specs.Layout.{bytes}
+use Rattle.text.specs.Output.{bytes}
 use Rattle.tle.specs.Number.{sum}
+use Rattle.tle.specs.Read.{letter}
 use Rattle.tle.specs.declared.Record.{Record}
 use Rattle.tle.specs.declared.Line.{Line}
 use Rattle.tle.specs.declared.Line.the-variants.{One, Two}
-use Rattle.tle_writer.specs.Field.{digits, right, pointed, dayPlaces, fraction, scaled, letter, designator}
+use Rattle.tle_writer.specs.Field.{digits, right, pointed, dayPlaces, fraction, scaled, designator}
 
 -- pieces side by side
 unfoldable pub join : List (List ℕ) → List ℕ

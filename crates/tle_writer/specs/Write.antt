@@ -1,7 +1,7 @@
 -- Document 01, "Refusal numbers": writing refuses with 16, then 17; else the line stands at the front of the lent room,
 -- and what lies past it stays.
 use Prim.Native.Nat.{ℕ}
-use mathlib.Core.List.{List, [], _++_}
+use mathlib.Core.List.{List, _++_}
 use mathlib.Core.Bool.{cond}
 use mathlib.Core.Path.{_≡_}
 use denote.Ref.{RefT, now, ptr, at-last}
@@ -34,19 +34,15 @@ after Short line out = out
 unfoldable pub writtenOver : Record → Line → List ℕ → List ℕ
 writtenOver r which out = after (writingOf r out) (lineOf which r) out
 
--- what an answer hands back: the line, or no bytes
-abbrev pub part : Writing → List ℕ → List ℕ
-part Written line = line
-part Illegal line = []
-part Short line = []
-
--- the bytes handed back
-unfoldable pub partOf : Record → Line → List ℕ → List ℕ
-partOf r which out = part (writingOf r out) (lineOf which r)
-
--- p is what is handed back of the room out: its bytes, that it begins where the room begins, and where the room is exactly
--- one line, that it is this room, with the line in it
-pub record Handed (r : Record) (which : Line) (out p : RefT (List ℕ)) : Type 0 where
-  pub bytes : now p ≡ partOf r which (now out)
+-- the part p of the room out that holds a line just written: its bytes, that it begins where the room begins, and where the
+-- room is exactly one line, that it is this room, with the line in it
+pub record Front (line : List ℕ) (out p : RefT (List ℕ)) : Type 0 where
+  pub bytes : now p ≡ line
   pub begins : ptr p ≡ ptr out
-  pub whole : writingOf r (now out) ≡ Written → length (now out) ≡ 69 → p ≡ at-last out (lineOf which r)
+  pub whole : length (now out) ≡ 69 → p ≡ at-last out line
+
+-- what an answer hands back of the room out: the line's part, or after a refusal the room as it was lent, with all its bytes
+abbrev pub Handed : Writing → List ℕ → RefT (List ℕ) → RefT (List ℕ) → Type 0
+Handed Written line out p = Front line out p
+Handed Illegal line out p = p ≡ out
+Handed Short line out p = p ≡ out

@@ -4,12 +4,11 @@ ghost use mathlib.Core.Path.{_≡_};
 ghost use mathlib.Core.List.{[], _∷_};
 ghost use Prim.Native.Nat.{_+_, _^_, _≤_};
 ghost use lib.ListN.{length};
-ghost use Rattle.tle_writer.specs.Field.{place, lead, right, pointed, dayPlaces, sign, fraction, exponentSign, scaled, letter, designator};
+ghost use Rattle.tle_writer.specs.Field.{place, lead, right, pointed, dayPlaces, sign, fraction, exponentSign, scaled, designator};
 ghost use Rattle.tle_writer.specs.Over.{Put};
-use tle::Class;
+use integers::magnitude;
 use tle::Designator;
 use tle::Scaled;
-use tle::magnitude;
 
 // The byte of a number's last place; z stands for a leading zero.
 fn place_of(z: u8, n: u64) -> u8
@@ -61,16 +60,6 @@ fn exponent_sign_of(x: i64) -> u8
         return b'+';
     }
     b'-'
-}
-
-pub(crate) fn letter_of(class: Class) -> u8
-    ensures { λ r. ⌜ r ≡ letter class ⌝ }
-{
-    match class {
-        Class::Unclassified => b'U',
-        Class::Classified => b'C',
-        Class::Secret => b'S',
-    }
 }
 
 // Each function below gives the line with a field over its columns after the first at.

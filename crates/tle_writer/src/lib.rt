@@ -6,6 +6,7 @@ ghost use mathlib.Core.List.{_++_};
 ghost use Prim.Native.Nat.{_≤_};
 ghost use lib.ListN.{length, drop};
 ghost use Rattle.tle_writer.specs.Write.{numberOf, writingOf, writtenOver, Handed};
+ghost use Rattle.tle_writer.specs.Lines.{lineOf};
 use lines::line_of;
 use tle::Line;
 use tle::Record;
@@ -64,18 +65,18 @@ pub fn fill_line(r: Record, which: Line, out: &mut [u8]) -> Writing
 }
 
 // As fill_line, and hands back the part of out just written, which begins where out begins; after a
-// refusal that part is empty. The number of the refusal, 0 where there is none, comes through why.
-// A room of exactly one line is handed back itself, so that whoever lent it knows all of it
+// refusal out itself, as it was lent. The number of the refusal, 0 where there is none, comes through
+// why. A room of exactly one line is handed back itself, so that whoever lent it knows all of it
 // afterwards; of a longer one, fill_line says what became of the rest.
 pub fn write_line<'a>(r: Record, which: Line, out: &'a mut [u8], why: &mut u8) -> &'a mut [u8]
-    ensures { λ p. ⌜ Handed r which (out .entry) p ⌝ }
+    ensures { λ p. ⌜ Handed (writingOf r (now (out .entry))) (lineOf which r) (out .entry) p ⌝ }
     ensures { λ p. ⌜ now (why .exit) ≡ numberOf (writingOf r (now (out .entry))) ⌝ }
 {
     let room = out.len();
     let k = fill_line(r, which, out).number();
     *why = k;
     if k != 0 {
-        return &mut out[..0];
+        return out;
     }
     if room == 69 {
         return out;

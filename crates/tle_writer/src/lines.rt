@@ -3,10 +3,9 @@
 ghost use mathlib.Core.Path.{_≡_};
 ghost use mathlib.Core.List.{_++_};
 ghost use lib.ListN.{take};
-ghost use Rattle.tle.specs.Layout.{bytes};
+ghost use Rattle.text.specs.Output.{bytes};
 ghost use Rattle.tle.specs.declared.Line.the-variants.{One, Two};
 ghost use Rattle.tle_writer.specs.Lines.{bodyOf, closedOf, lineOf};
-use super::fields::letter_of;
 use super::fields::put_at;
 use super::fields::put_byte;
 use super::fields::put_day;
@@ -38,7 +37,7 @@ fn body1(r: Record) -> [u8; 69]
     let l = [b' '; 69];
     let l = put_byte(l, 0, b'1');
     let l = put_at(l, 2, 5, b'0', r.number);
-    let l = put_byte(l, 7, letter_of(class));
+    let l = put_byte(l, 7, class.letter());
     let l = put_designator(l, 9, d);
     let l = put_at(l, 18, 2, b'0', r.year % 100);
     let l = put_day(l, 20, r.day);

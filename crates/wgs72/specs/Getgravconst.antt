@@ -1,4 +1,5 @@
--- 002's getgravconst at WGS-72 (lines 3718-3728); document 01, "Numbers the model rests on". Definitions only.
+-- 002's getgravconst at WGS-72 (lines 3718-3727); document 01, "Numbers the model rests on". Definitions only.
+-- Left out: tumin, which nothing reads.
 use lib.Ieee.{Float, neg}
 use Rattle.elementary.specs.Notation.{_⊗_, _⊘_, dec}
 use Rattle.elementary.specs.Root.{sqrtOf}
@@ -13,9 +14,6 @@ radiusearthkm = dec 6378135 3
 
 unfoldable pub xke : Float
 xke = dec 60 0 ⊘ sqrtOf (radiusearthkm ⊗ radiusearthkm ⊗ radiusearthkm ⊘ mu)
-
-unfoldable pub tumin : Float
-tumin = dec 1 0 ⊘ xke
 
 abbrev pub j2 : Float
 j2 = dec 1082616 9

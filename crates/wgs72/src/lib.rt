@@ -13,13 +13,7 @@ pub const J4: f64 = -0.00000165597;
 pub fn xke() -> f64
     ensures { λ r. ⌜ r ≡ G.xke ⌝ }
 {
-    0.07436691613317342
-}
-
-pub fn tumin() -> f64
-    ensures { λ r. ⌜ r ≡ G.tumin ⌝ }
-{
-    13.446839696959309
+    7.436691613317342e-2
 }
 
 pub fn j3oj2() -> f64

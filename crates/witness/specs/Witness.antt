@@ -3,7 +3,7 @@
 use Prim.Native.Nat.{ℕ}
 use mathlib.Core.Path.{_≡_}
 use mathlib.Core.List.{List}
-use Rattle.tle.specs.Layout.{bytes}
+use Rattle.text.specs.Output.{bytes}
 use Rattle.satellite.specs.declared.Resonance.{Resonance}
 use Rattle.satellite.specs.declared.Resonance.the-variants as kinds
 use Rattle.opening.specs.declared.opening.Satellite.{Satellite}

@@ -12,7 +12,7 @@ returns c =
     let p = c .before .before in
     let q = p .before .before .before .before in
     let s = q .before .before .before .before in
-    let e = s .before .before .class-letter .ensures in
+    let e = s .before .before .letter .ensures in
     both (s .put-bytes .ensures) (both (same (ap (λ b. b ∷ []) e) (q .put-byte .ensures)) (p .put-byte2 .ensures))
 
 pub put-class-spec : {M : Type 1} → statement M

@@ -1,5 +1,5 @@
 use mathlib.Core.Path.{ap}
-use Rattle.sgp4.specs.declared.Rows.{Rows}
+use Rattle.sgp4.specs.declared.pairs.Rows.{Rows}
 use Rattle.requests.proofs.Answers.{one-then, both-true, in-range}
 use borrow.Author.Needs.{needs}
 use Rattle.requests.proofs.ask_two.Statement.{statement}

@@ -7,4 +7,4 @@ use Rattle.requests.proofs.reached.Tie as tie
 pub reached-spec : {M : Type 1} → statement M
 unfolding reached
 reached-spec =
-    tie.close (tie.spec (λ c κs. search needs) (λ c κs. search needs) (λ c κs. search needs) (λ c κs. search needs) (λ c. cc))
+    tie.close (tie.spec (λ c κs. search needs) (λ c κs. search needs) (λ c κs. search needs) (λ c κs. search needs) (λ c. simp (c .advance .ensures, c .before .stride-need .ensures, c .before .before .side-of .ensures, c .before .before .before .integrator-of .ensures)))

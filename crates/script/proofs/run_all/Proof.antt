@@ -15,7 +15,9 @@ abbrev μ-loop : tie.MeasureT-loop
 
 -- src/lib.rt:163:5
 loop-holds : tie.Need-loop-holds Inv-loop μ-loop
-loop-holds c = running-none _ _ _ _ _ _ _ (omega arith) (omega arith) (omega arith) (omega arith) (omega arith) (omega arith) (omega arith)
+loop-holds c =
+    let p = c .before .before .before .before .before .pre in
+    running-none _ _ _ _ _ _ _ (omega arith) (p .1 .0) (p .1 .1 .0) (p .1 .1 .1 .0) (omega arith) (omega arith) (omega arith)
 
 -- src/lib.rt:164:17
 mul-n : tie.Need-mul-n Inv-loop μ-loop

@@ -27,21 +27,21 @@ returns-2 c =
     let a = r .before .before .before .before .before .before .before .before .args in
     post-done (a .line1 .now) (a .line2 .now) (a .lengths .now) (a .times .now) (a .refusals .now) (a .states .now) (a .rounds .now) (a .strides .now) _ _ _ _ _ (sym (r .has-room .ensures) ∙ said-yes (r .has-room .result) (c .before .before .before .before .before .before .before .before .before .before .before .before .before .before .before .before .before .if1 .left)) (sym (c .before .before .before .before .before .before .before .before .before .before .before .before .before .before .before .before .open-pair .ensures) ∙ c .before .before .before .before .before .before .before .before .before .before .before .before .before .before .s .given .1) (c .before .before .before .before .before .before .before .before .run-all .ensures)
 
--- src/lib.rt:197:1
 returns-3 : tie.Need-returns-3
 unfolding ranOf
 returns-3 c =
-    let r = c .before .before .before .before in
+    let o = c .before .before .before in
+    let r = o .before .before in
     let a = r .before .before .before .before .before .before .before .before .args in
-    post-closed (a .line1 .now) (a .line2 .now) (a .lengths .now) (a .times .now) (a .refusals .now) (a .states .now) (a .rounds .now) (a .strides .now) _ (sym (r .has-room .ensures) ∙ said-yes (r .has-room .result) (c .before .before .before .if1 .left)) (sym (c .before .before .open-pair .ensures) ∙ c .enum-told .given .1) refl
+    post-closed (a .line1 .now) (a .line2 .now) (a .lengths .now) (a .times .now) (a .refusals .now) (a .states .now) (a .rounds .now) (a .strides .now) _ _ tt (sym (r .has-room .ensures) ∙ said-yes (r .has-room .result) (o .before .if1 .left)) (sym (o .open-pair .ensures) ∙ c .before .why .given .1) refl
 
--- src/lib.rt:197:1
 returns-4 : tie.Need-returns-4
 unfolding ranOf
 returns-4 c =
-    let r = c .before .before .before .before in
+    let o = c .before .before .before in
+    let r = o .before .before in
     let a = r .before .before .before .before .before .before .before .before .args in
-    post-closed (a .line1 .now) (a .line2 .now) (a .lengths .now) (a .times .now) (a .refusals .now) (a .states .now) (a .rounds .now) (a .strides .now) _ (sym (r .has-room .ensures) ∙ said-yes (r .has-room .result) (c .before .before .before .if1 .left)) (sym (c .before .before .open-pair .ensures) ∙ c .enum-told2 .given .1) refl
+    post-closed (a .line1 .now) (a .line2 .now) (a .lengths .now) (a .times .now) (a .refusals .now) (a .states .now) (a .rounds .now) (a .strides .now) _ _ tt (sym (r .has-room .ensures) ∙ said-yes (r .has-room .result) (o .before .if1 .left)) (sym (o .open-pair .ensures) ∙ c .before .why2 .given .1) refl
 
 pub run-script-spec : {M : Type 1} → statement M
 run-script-spec =

@@ -3,7 +3,7 @@ use mir.Syntax.{w64}
 use mir.ValLaws.{toZ-ofZ}
 use native.Mathlib.Omega.{arith}
 use borrow.Author.Needs.{needs}
-use Rattle.script.proofs.Rooms.{taken-zero, taken-more}
+use Rattle.script.proofs.Rooms.{taken-zero, taken-more, due-zero}
 use Rattle.script.proofs.Running.{step-is, one-of, many-of}
 use Rattle.script.proofs.step.Statement.{statement}
 use Rattle.script.proofs.step.Tie as tie
@@ -15,7 +15,7 @@ shared-slice-copy-out-t c = omega (arith, taken-zero _ (c .if1 .taken))
 -- src/lib.rt:136:9
 one-requires : tie.Need-one-requires
 one-requires c κs =
-    let e = taken-zero _ (c .before .before .before .before .if1 .taken) in
+    let e = due-zero _ (c .before .before .before .before .if1 .taken) in
     (omega (arith, e), (omega (arith, e), omega (arith, e)))
 
 -- src/lib.rt:136:9

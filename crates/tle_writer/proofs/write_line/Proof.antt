@@ -1,11 +1,11 @@
--- The part is the front of what fill_line wrote, or empty.
+-- The part is the front of what fill_line wrote, or the room that it left alone.
 use mathlib.Core.Path.{_≡_, sym, refl, ap, _∙_}
 use denote.Ref.{now, at-last}
 use borrow.Author.Needs.{needs}
 use Rattle.tle_writer.specs.Write.{numberOf, writingOf}
 use Rattle.tle_writer.specs.declared.Writing.{Writing}
 use Rattle.tle_writer.specs.declared.Writing.the-variants.{Written}
-use Rattle.tle_writer.proofs.Writes.{nothing, zero-written, handed, front, front-long, exactly}
+use Rattle.tle_writer.proofs.Writes.{refused, zero-written, front, front-long, exactly}
 use Rattle.tle_writer.proofs.write_line.Statement.{statement}
 use Rattle.tle_writer.proofs.write_line.Tie as tie
 
@@ -21,15 +21,10 @@ written c z = zero-written (answer c) (sym (told c) ∙ z)
 
 returns : tie.Need-returns
 returns c =
-    let n = c .before .before in
-    let a = n .before .before .before .before .before .before .args in (
-      record {
-        bytes = nothing (a .r) (a .which) (now (a .out)) (λ z. c .before .if1 .taken (told n ∙ z));
-        begins = refl;
-        whole = λ h. absurd (c .before .if1 .taken (told n ∙ ap numberOf h));
-      },
-      told n,
-    )
+    let n = c .before in
+    let f = n .before .before .before in
+    let a = f .before .before .before .args in
+    (refused (a .r) (a .which) _ (a .out) (λ z. c .if1 .taken (told n ∙ z)) (f .fill-line .ensures .1), told n)
 
 returns-2 : tie.Need-returns-2
 returns-2 c =
@@ -37,17 +32,11 @@ returns-2 c =
     let f = n .before .before .before in
     let a = f .before .before .before .args in
     let z = written n (c .before .if1 .left) in
-    let m = exactly (a .r) (a .which) (now (a .out)) _ (f .fill-line .ensures .1) z (c .if2 .taken) in (
-      record {
-        bytes = m ∙ handed (a .r) (a .which) (now (a .out)) z;
-        begins = refl;
-        whole = λ _ _. ap (at-last (a .out)) m;
-      },
-      told n,
-    )
+    let m = exactly (a .r) (a .which) (now (a .out)) _ (f .fill-line .ensures .1) z (c .if2 .taken) in
+    (rw z (record { bytes = m; begins = refl; whole = λ _. ap (at-last (a .out)) m }), told n)
 
-slice-aggregate-result-2 : tie.Need-slice-aggregate-result-2
-slice-aggregate-result-2 c =
+slice-aggregate-result : tie.Need-slice-aggregate-result
+slice-aggregate-result c =
     let n = c .before .before .before in
     let f = n .before .before .before in
     let a = f .before .before .before .args in
@@ -59,15 +48,15 @@ returns-3 c =
     let f = n .before .before .before in
     let a = f .before .before .before .args in
     let z = written n (c .before .before .if1 .left) in (
-      record {
-        bytes = front (a .r) (a .which) (now (a .out)) _ (f .fill-line .ensures .1) z ∙ handed (a .r) (a .which) (now (a .out)) z;
+      rw z (record {
+        bytes = front (a .r) (a .which) (now (a .out)) _ (f .fill-line .ensures .1) z;
         begins = refl;
-        whole = λ _ q. absurd (c .before .if2 .left q);
-      },
+        whole = λ q. absurd (c .before .if2 .left q);
+      }),
       told n,
     )
 
 pub write-line-spec : {M : Type 1} → statement M
 write-line-spec =
     tie.close
-    (tie.spec (λ c κs. search needs) (λ c κs. search needs) (λ c. search needs) returns returns-2 slice-aggregate-result-2 returns-3)
+    (tie.spec (λ c κs. search needs) (λ c κs. search needs) returns returns-2 slice-aggregate-result returns-3)

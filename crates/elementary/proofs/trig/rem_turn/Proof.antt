@@ -1,10 +1,10 @@
-use mathlib.Core.Path.{_≡_, refl, sym, ap, _∙_, subst}
+use mathlib.Core.Path.{_≡_, sym, ap, _∙_, subst}
 use lib.Dec.{T}
 use lib.Ieee.{binary64, fits, neg}
 use Rattle.elementary.specs.Trig.{turned}
 use Rattle.elementary.proofs.Literals.{literal}
 use Rattle.elementary.proofs.Remainder.{rem-small, rem-once}
-use Rattle.elementary.proofs.Turns.{neg-turned}
+use Rattle.elementary.proofs.Turns.{neg-turned, other-side}
 use Rattle.elementary.proofs.trig.rem_turn.Statement.{statement}
 use Rattle.elementary.proofs.trig.rem_turn.Tie as tie
 
@@ -21,18 +21,14 @@ returns-2 c = sym (rem-once binary64 (c .before .before .before .args .x) 884279
 
 rem-whole-requires : tie.Need-rem-whole-requires
 unfolding literal
-rem-whole-requires c κs = (c .before .if4 .taken, c .if5 .taken)
+rem-whole-requires c κs = c .before .if2 .left
 
 rem-whole-requires-2 : tie.Need-rem-whole-requires-2
-unfolding literal
-rem-whole-requires-2 c κs = (c .before .if6 .taken, c .if7 .taken)
+unfolding literal neg
+rem-whole-requires-2 c κs = other-side (c .before .args .x) (c .if1 .left)
 
 returns-4 : tie.Need-returns-4
-returns-4 c = ap neg (c .rem-whole2 .ensures) ∙ neg-turned (c .before .before .before .before .before .args .x)
-
-returns-5 : tie.Need-returns-5
-unfolding turned literal
-returns-5 c = refl
+returns-4 c = ap neg (c .rem-whole2 .ensures) ∙ neg-turned (c .before .before .args .x)
 
 pub rem-turn-spec : {M : Type 1} → statement M
-rem-turn-spec = tie.close (tie.spec returns returns-2 rem-whole-requires (λ c. c .rem-whole .ensures) rem-whole-requires-2 returns-4 returns-5)
+rem-turn-spec = tie.close (tie.spec returns returns-2 rem-whole-requires (λ c. c .rem-whole .ensures) rem-whole-requires-2 returns-4)

@@ -7,4 +7,4 @@ use Rattle.near_earth.proofs.finite.finite_drag.Tie as tie
 
 pub finite-drag-spec : {M : Type 1} → statement M
 unfolding finiteDrag round units odd size span climb trailingZeros ofBits neg
-finite-drag-spec = tie.close (tie.spec (λ c κs. search needs) (λ c κs. search needs) (λ c κs. search needs) (λ c κs. search needs) (λ c κs. search needs) (λ c κs. search needs) (λ c κs. search needs) (λ c κs. search needs) (λ c κs. search needs) (λ c. cc))
+finite-drag-spec = tie.close (tie.spec (λ c κs. search needs) (λ c κs. search needs) (λ c κs. search needs) (λ c κs. search needs) (λ c κs. search needs) (λ c κs. search needs) (λ c κs. search needs) (λ c κs. search needs) (λ c κs. search needs) (λ c. simp (c .is-finite9 .ensures, c .before .is-finite8 .ensures, c .before .before .is-finite7 .ensures, c .before .before .before .is-finite6 .ensures, c .before .before .before .before .is-finite5 .ensures, c .before .before .before .before .before .is-finite4 .ensures, c .before .before .before .before .before .before .is-finite3 .ensures, c .before .before .before .before .before .before .before .is-finite2 .ensures, c .before .before .before .before .before .before .before .before .is-finite .ensures)))

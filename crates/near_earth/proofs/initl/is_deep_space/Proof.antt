@@ -7,4 +7,4 @@ use Rattle.near_earth.proofs.initl.is_deep_space.Tie as tie
 
 pub is-deep-space-spec : {M : Type 1} → statement M
 unfolding deepSpace round units odd size span climb trailingZeros ofBits neg
-is-deep-space-spec = tie.close (tie.spec (λ c κs. search needs) (λ c. cc))
+is-deep-space-spec = tie.close (tie.spec (λ c κs. search needs) (λ c. simp (← c .before .guard .ensures)))

@@ -7,4 +7,4 @@ use Rattle.near_earth.proofs.sgp4init.altered.Tie as tie
 
 pub altered-spec : {M : Type 1} → statement M
 unfolding altered round units odd size span climb trailingZeros ofBits neg
-altered-spec = tie.close (tie.spec (λ c κs. search needs) (λ c. cc))
+altered-spec = tie.close (tie.spec (λ c κs. search needs) (λ c. simp (c .pow4 .ensures)))

@@ -7,4 +7,4 @@ use Rattle.near_earth.proofs.sgp4init.aycof.Tie as tie
 
 pub aycof-spec : {M : Type 1} → statement M
 unfolding aycof round units odd size span climb trailingZeros ofBits neg
-aycof-spec = tie.close (tie.spec (λ c κs. search needs) (λ c. cc))
+aycof-spec = tie.close (tie.spec (λ c κs. search needs) (λ c. simp (c .j3oj2 .ensures)))

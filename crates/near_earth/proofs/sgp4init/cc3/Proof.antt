@@ -7,4 +7,4 @@ use Rattle.near_earth.proofs.sgp4init.cc3.Tie as tie
 
 pub cc3-spec : {M : Type 1} → statement M
 unfolding cc3 round units odd size span climb trailingZeros ofBits neg
-cc3-spec = tie.close (tie.spec (λ c κs. search needs) (λ c. simp (c .before .before .before .before .before .if1 .taken) (cc)) (λ c. simp (c .if1 .left) (cc)))
+cc3-spec = tie.close (tie.spec (λ c κs. search needs) (λ c. simp (c .before .before .j3oj2 .ensures, c .before .before .before .before .before .if1 .taken)) (λ c. simp (c .if1 .left)))

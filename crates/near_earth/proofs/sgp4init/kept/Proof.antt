@@ -1,7 +1,7 @@
 use mathlib.Core.Path.{refl}
 use lib.Ieee.{round, units, odd, size, span, climb, ofBits, neg}
 use lib.Count.{trailingZeros}
-use Rattle.near_earth.specs.Sgp4init.{kept}
+use Rattle.near_earth.specs.Kept.{kept}
 use Rattle.near_earth.proofs.sgp4init.kept.Statement.{statement}
 use Rattle.near_earth.proofs.sgp4init.kept.Tie as tie
 

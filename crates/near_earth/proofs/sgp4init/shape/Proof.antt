@@ -7,4 +7,4 @@ use Rattle.near_earth.proofs.sgp4init.shape.Tie as tie
 
 pub shape-spec : {M : Type 1} → statement M
 unfolding shape round units odd size span climb trailingZeros ofBits neg
-shape-spec = tie.close (tie.spec (λ c κs. search needs) (λ c κs. search needs) (λ c κs. search needs) (λ c. cc))
+shape-spec = tie.close (tie.spec (λ c κs. search needs) (λ c κs. search needs) (λ c κs. search needs) (λ c. simp (c .seven-halves .ensures, c .before .before .pow4 .ensures, c .before .before .before .abs .ensures)))

@@ -7,4 +7,4 @@ use Rattle.near_earth.proofs.sgp4init.terms.Tie as tie
 
 pub terms-spec : {M : Type 1} → statement M
 unfolding terms round units odd size span climb trailingZeros ofBits neg
-terms-spec = tie.close (tie.spec (λ c κs. search needs) (λ c κs. search needs) (λ c. cc))
+terms-spec = tie.close (tie.spec (λ c κs. search needs) (λ c κs. search needs) (λ c. simp (c .before .before .aycof .ensures, c .before .before .before .xlcof .ensures)))

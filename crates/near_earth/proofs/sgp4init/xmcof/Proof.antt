@@ -7,4 +7,4 @@ use Rattle.near_earth.proofs.sgp4init.xmcof.Tie as tie
 
 pub xmcof-spec : {M : Type 1} → statement M
 unfolding xmcof round units odd size span climb trailingZeros ofBits neg
-xmcof-spec = tie.close (tie.spec (λ c κs. search needs) (λ c. simp (c .before .before .before .if1 .taken) (cc)) (λ c. simp (c .if1 .left) (cc)))
+xmcof-spec = tie.close (tie.spec (λ c κs. search needs) (λ c. simp (c .before .before .x2o3 .ensures, c .before .before .before .if1 .taken)) (λ c. simp (c .if1 .left)))

@@ -7,4 +7,4 @@ use Rattle.sgp4.proofs.deep_space.anew.Tie as tie
 
 pub anew-spec : {M : Type 1} → statement M
 unfolding anew round units odd size span climb trailingZeros ofBits neg
-anew-spec = tie.close (tie.spec (λ c κs. search needs) (λ c κs. search needs) (λ c. cc))
+anew-spec = tie.close (tie.spec (λ c κs. search needs) (λ c κs. search needs) (λ c. simp (c .aycof .ensures, c .before .xlcof .ensures)))

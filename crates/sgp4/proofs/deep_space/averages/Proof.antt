@@ -7,4 +7,4 @@ use Rattle.sgp4.proofs.deep_space.averages.Tie as tie
 
 pub averages-spec : {M : Type 1} → statement M
 unfolding averages round units odd size span climb trailingZeros ofBits neg
-averages-spec = tie.close (tie.spec (λ c κs. search needs) (λ c. cc))
+averages-spec = tie.close (tie.spec (λ c κs. search needs) (λ c. simp (c .mended .ensures)))

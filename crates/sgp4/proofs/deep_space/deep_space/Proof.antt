@@ -7,4 +7,4 @@ use Rattle.sgp4.proofs.deep_space.deep_space.Tie as tie
 
 pub deep-space-spec : {M : Type 1} → statement M
 unfolding deepSpace round units odd size span climb trailingZeros ofBits neg
-deep-space-spec = tie.close (tie.spec (λ c κs. search needs) (λ c κs. search needs) (λ c κs. search needs) (λ c κs. search needs) (λ c κs. search needs) (λ c. cc))
+deep-space-spec = tie.close (tie.spec (λ c κs. search needs) (λ c κs. search needs) (λ c κs. search needs) (λ c κs. search needs) (λ c κs. search needs) (λ c. simp (c .moved .ensures, c .before .updated .ensures, c .before .before .dspace .ensures, c .before .before .before .handed .ensures, c .before .before .before .before .secular .ensures)))

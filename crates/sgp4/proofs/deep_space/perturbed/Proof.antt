@@ -7,4 +7,4 @@ use Rattle.sgp4.proofs.deep_space.perturbed.Tie as tie
 
 pub perturbed-spec : {M : Type 1} → statement M
 unfolding perturbed round units odd size span climb trailingZeros ofBits neg
-perturbed-spec = tie.close (tie.spec (λ c κs. search needs) (λ c. simp (← c .before .no-ellipse .ensures, c .if1 .taken) (cc)) (λ c κs. search needs) (λ c κs. search needs) (λ c κs. search needs) (λ c κs. search needs) (λ c. simp (← c .before .before .before .before .before .no-ellipse .ensures, c .before .before .before .before .if1 .left) (cc)))
+perturbed-spec = tie.close (tie.spec (λ c κs. search needs) (λ c. simp (← c .before .no-ellipse .ensures, c .if1 .taken)) (λ c κs. search needs) (λ c κs. search needs) (λ c κs. search needs) (λ c κs. search needs) (λ c. simp (c .periodics .ensures, c .before .anew .ensures, c .before .before .inclined .ensures, c .before .before .before .sin-cos .ensures .1 .0, c .before .before .before .sin-cos .ensures .1 .1, ← c .before .before .before .before .before .no-ellipse .ensures, c .before .before .before .before .if1 .left)))

@@ -6,4 +6,4 @@ use Rattle.sgp4.proofs.deep_space.righted.Tie as tie
 
 pub righted-spec : {M : Type 1} → statement M
 unfolding righted round units odd size span climb trailingZeros ofBits neg
-righted-spec = tie.close (tie.spec (λ c. simp (c .before .before .before .if1 .taken) (cc)) (λ c. simp (c .if1 .left) (cc)))
+righted-spec = tie.close (tie.spec (λ c. simp (c .before .before .before .if1 .taken)) (λ c. simp (c .if1 .left)))

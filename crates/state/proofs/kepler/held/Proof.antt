@@ -7,4 +7,4 @@ use Rattle.state.proofs.kepler.held.Tie as tie
 
 pub held-spec : {M : Type 1} → statement M
 unfolding held round units odd size span climb trailingZeros ofBits neg
-held-spec = tie.close (tie.spec (λ c κs. search needs) (λ c. simp (← c .before .before .abs .ensures, c .before .if1 .taken, c .if2 .taken) (cc)) (λ c. simp (← c .before .before .abs .ensures, c .before .if1 .taken, c .if2 .left) (cc)) (λ c. simp (← c .before .abs .ensures, c .if1 .left) (cc)))
+held-spec = tie.close (tie.spec (λ c κs. search needs) (λ c. simp (← c .before .before .abs .ensures, c .if2 .taken, c .before .if1 .taken)) (λ c. simp (← c .before .before .abs .ensures, c .if2 .left, c .before .if1 .taken)) (λ c. simp (← c .before .abs .ensures, c .if1 .left)))

@@ -7,4 +7,4 @@ use Rattle.state.proofs.kepler.unsettled.Tie as tie
 
 pub unsettled-spec : {M : Type 1} → statement M
 unfolding unsettled round units odd size span climb trailingZeros ofBits neg
-unsettled-spec = tie.close (tie.spec (λ c κs. search needs) (λ c. cc))
+unsettled-spec = tie.close (tie.spec (λ c κs. search needs) (λ c. simp (c .abs .ensures)))

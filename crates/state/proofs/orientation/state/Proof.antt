@@ -7,4 +7,4 @@ use Rattle.state.proofs.orientation.state.Tie as tie
 
 pub state-spec : {M : Type 1} → statement M
 unfolding state round units odd size span climb trailingZeros ofBits neg
-state-spec = tie.close (tie.spec (λ c κs. search needs) (λ c κs. search needs) (λ c κs. search needs) (λ c κs. search needs) (λ c κs. search needs) (λ c. cc))
+state-spec = tie.close (tie.spec (λ c κs. search needs) (λ c κs. search needs) (λ c κs. search needs) (λ c κs. search needs) (λ c κs. search needs) (λ c. simp (c .oriented .ensures, c .before .vkmpersec .ensures, c .before .before .sin-cos3 .ensures .0, c .before .before .before .sin-cos2 .ensures .0, c .before .before .before .before .sin-cos .ensures .0)))

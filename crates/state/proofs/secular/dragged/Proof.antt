@@ -7,4 +7,4 @@ use Rattle.state.proofs.secular.dragged.Tie as tie
 
 pub dragged-spec : {M : Type 1} → statement M
 unfolding dragged round units odd size span climb trailingZeros ofBits neg
-dragged-spec = tie.close (tie.spec (λ c κs. search needs) (λ c κs. search needs) (λ c κs. search needs) (λ c κs. search needs) (λ c. cc))
+dragged-spec = tie.close (tie.spec (λ c κs. search needs) (λ c κs. search needs) (λ c κs. search needs) (λ c κs. search needs) (λ c. simp (c .higher-drag .ensures, c .before .sin .ensures, c .before .before .before .delomg-delm .ensures, c .before .before .before .before .cos .ensures)))

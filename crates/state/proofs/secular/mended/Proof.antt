@@ -6,4 +6,4 @@ use Rattle.state.proofs.secular.mended.Tie as tie
 
 pub mended-spec : {M : Type 1} → statement M
 unfolding mended round units odd size span climb trailingZeros ofBits neg
-mended-spec = tie.close (tie.spec (λ c. simp (c .if1 .taken) (cc)) (λ c. simp (c .if1 .left) (cc)))
+mended-spec = tie.close (tie.spec (λ c. simp (c .if1 .taken)) (λ c. simp (c .if1 .left)))

@@ -7,4 +7,4 @@ use Rattle.state.proofs.secular.secular.Tie as tie
 
 pub secular-spec : {M : Type 1} → statement M
 unfolding secular round units odd size span climb trailingZeros ofBits neg
-secular-spec = tie.close (tie.spec (λ c κs. search needs) (λ c. simp (c .if1 .taken) (cc)) (λ c κs. search needs) (λ c. simp (c .before .if1 .left) (cc)))
+secular-spec = tie.close (tie.spec (λ c κs. search needs) (λ c. simp (c .before .gravity .ensures, c .if1 .taken)) (λ c κs. search needs) (λ c. simp (c .dragged .ensures, c .before .before .gravity .ensures, c .before .if1 .left)))

@@ -1,5 +1,6 @@
 use lib.IntN.{natAbs}
-use Rattle.text.proofs.Signed.{negative, with-minus, without, steady}
+use Rattle.integers.proofs.Signed.{negative}
+use Rattle.text.proofs.Signed.{with-minus, without, steady}
 use Rattle.text.proofs.Pieces.{both, same}
 use Rattle.text.specs.Output.{decimal}
 use mathlib.Core.List.{_∷_}

@@ -27,7 +27,7 @@ returns c =
     k .before .before .put-day .ensures .is ∙ ap (over 20 12 _) (
     m .put-at2 .ensures .is ∙ ap (over 18 2 _) (
     n .put-designator .ensures .is ∙ ap (over 9 8 _) (
-    n .before .put-byte2 .ensures .is ∙ rw (n .before .before .letter-of .ensures) (ap (over 7 1 _) (
+    n .before .put-byte2 .ensures .is ∙ rw (n .before .before .letter .ensures) (ap (over 7 1 _) (
     p .put-at .ensures .is ∙ ap (over 2 5 _) (
     p .before .put-byte .ensures .is))))))))))))
     ∙ built1 r

@@ -1,0 +1,21 @@
+-- What is claimed of a printed pair. Proved in proofs/Lengths.antt and proofs/Kept.antt.
+use Prim.Native.Nat.{ℕ, _≤_}
+use mathlib.Core.Path.{_≡_}
+use mathlib.Core.List.{List}
+use lib.ListN.{length}
+use Rattle.text.specs.Input.{kept, started, fed}
+use Rattle.tle.specs.Read.{readOf}
+use Rattle.tle.specs.declared.Reading.{Reading}
+use Rattle.listing.specs.Listing.{readingText, linesText, pairText}
+
+-- a room of 900 bytes is never too short
+abbrev pub TextsFit : Type 0
+TextsFit = (x : Reading) → length (readingText x) ≤ 900
+
+-- the first 70 bytes of each line decide what reading gives
+abbrev pub SeventyDecide : Type 0
+SeventyDecide = (a b : List ℕ) → readOf (kept a) (kept b) ≡ readOf a b
+
+-- the lines kept of a whole input, in whatever pieces it came, print as the pair of that input
+abbrev pub FedPrintsWhole : Type 0
+FedPrintsWhole = (input : List ℕ) → linesText (fed started input) ≡ pairText input

@@ -1,0 +1,4 @@
+pub mod Signed
+pub mod Front
+pub mod Small
+pub mod Back

@@ -1,0 +1,19 @@
+use borrow.Author.Tests.{eq-eqb, ne-eqb}
+use Rattle.tle.specs.Read.{classOf}
+use Rattle.record_numbers.proofs.class_from.Statement.{statement}
+use Rattle.record_numbers.proofs.class_from.Tie as tie
+
+returns : tie.Need-returns
+unfolding classOf
+returns c = simp (eq-eqb _ _ (c .if1 .taken))
+
+returns-2 : tie.Need-returns-2
+unfolding classOf
+returns-2 c = simp (ne-eqb _ _ (c .before .if1 .left), eq-eqb _ _ (c .if2 .taken))
+
+returns-3 : tie.Need-returns-3
+unfolding classOf
+returns-3 c = simp (ne-eqb _ _ (c .before .if1 .left), ne-eqb _ _ (c .if2 .left))
+
+pub class-from-spec : {M : Type 1} → statement M
+class-from-spec = tie.close (tie.spec returns returns-2 returns-3)

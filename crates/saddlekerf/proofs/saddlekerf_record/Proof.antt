@@ -1,0 +1,42 @@
+use denote.Ref.{now}
+use lib.ListN.{length}
+use mathlib.Core.Path.{sym, ap, _∙_}
+use borrow.Author.Needs.{needs}
+use Rattle.saddlekerf.specs.Answer.{answer}
+use Rattle.saddlekerf.specs.Records.{recordAnswer, recordFields}
+use Rattle.saddlekerf.proofs.Columns.{columns-fit}
+use Rattle.saddlekerf.proofs.Records.{accepted-refusal, accepted-stored}
+use Rattle.saddlekerf.proofs.saddlekerf_record.Statement.{statement}
+use Rattle.saddlekerf.proofs.saddlekerf_record.Tie as tie
+
+refusal-answer-requires : tie.Need-refusal-answer-requires
+refusal-answer-requires c κs = let w = c .before in columns-fit _ _ _ (sym (w .before .before .read .ensures) ∙ w .why .given .1)
+
+returns : tie.Need-returns
+unfolding recordAnswer recordFields
+returns c =
+    let t = c .before .before in
+    let w = t .before .before .before in
+    let o = w .before .before in
+    let fields = now (o .before .before .before .args .fields) in
+    let e = sym (o .read .ensures) ∙ w .r .given .1 in
+    let f = t .store-record .ensures in (
+      c .answer .ensures ∙ ap (λ k. answer k 0 0 0) (f .0 ∙ accepted-refusal _ _ _ e (length fields)) ∙ sym (ap (λ z. recordAnswer z (length fields)) e),
+      f .1 ∙ accepted-stored _ _ _ e fields ∙ sym (ap (λ z. recordFields z fields) e),
+    )
+
+returns-2 : tie.Need-returns-2
+unfolding recordAnswer recordFields
+returns-2 c =
+    let w = c .before .before in
+    let o = w .before .before in
+    let fields = now (o .before .before .before .args .fields) in
+    let e = sym (o .read .ensures) ∙ w .why .given .1 in
+    (c .refusal-answer .ensures ∙ sym (ap (λ z. recordAnswer z (length fields)) e), sym (ap (λ z. recordFields z fields) e))
+
+pub saddlekerf-record-spec : {M : Type 1} → statement M
+saddlekerf-record-spec =
+    tie.close
+    (tie.spec
+    (λ c κs. search needs) (λ c. search needs) (λ c κs. search needs) (λ c κs. search needs) (λ c. search needs) refusal-answer-requires
+    (λ c. search needs) returns returns-2)

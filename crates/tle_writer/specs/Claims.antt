@@ -1,0 +1,24 @@
+-- What is claimed of the lines that are written. Proved in proofs/Round.antt and proofs/Writes.antt.
+use mathlib.Core.Path.{_≡_}
+use mathlib.Core.Bool.{true}
+use lib.ListN.{length}
+use Rattle.tle.specs.Layout.{Lawful, layoutOf}
+use Rattle.tle.specs.Legal.{legal}
+use Rattle.tle.specs.Read.{readOf}
+use Rattle.tle.specs.declared.Record.{Record}
+use Rattle.tle.specs.declared.Line.{Line}
+use Rattle.tle.specs.declared.Line.the-variants.{One, Two}
+use Rattle.tle.specs.declared.Reading.the-variants as reading
+use Rattle.tle_writer.specs.Lines.{lineOf}
+
+-- demand 2: a legal record written and read is that record
+abbrev pub ReturnTrip : Type 0
+ReturnTrip = (r : Record) → legal r ≡ true → readOf (lineOf One r) (lineOf Two r) ≡ reading.Record r
+
+-- either line of a legal record keeps the layout by which it is read
+abbrev pub WrittenAreLawful : Type 0
+WrittenAreLawful = (which : Line) (r : Record) → legal r ≡ true → Lawful (layoutOf which) (lineOf which r)
+
+-- each line is 69 bytes, of any record
+abbrev pub LinesLong : Type 0
+LinesLong = (which : Line) (r : Record) → length (lineOf which r) ≡ 69

@@ -1,0 +1,138 @@
+#!/usr/bin/env python3
+"""Inputs of the program that prints a pair, and what it has to print of each.
+
+Written from document 01 ("One pair, printed", "The two lines") and from nothing
+else; which pairs are refused, and how, is the reader's of tle_pairs.py.
+
+  print_cases.py --write INPUT EXPECTED
+      writes each input as one line, `|` for a newline and `~` for a carriage
+      return, and for each what is printed, after a line `case N`.
+  print_cases.py
+      prints how many cases there are.
+"""
+
+import argparse
+import sys
+from pathlib import Path
+
+sys.dont_write_bytecode = True
+from tle_pairs import EXAMPLE, LENGTH, judge, line1, line2, put, whole
+
+ONE, TWO = EXAMPLE
+
+
+# ------------------------------------------------------------------ the text
+
+def signed(line, first, last):
+    """A sign and digits: a whole number in the last place."""
+    size = whole(line, first + 1, last)
+    return -size if line[first - 1:first] == b"-" else size
+
+
+def exponential(line, first):
+    """Sign, five digits, sign of the exponent, one digit; a zero has exponent 0."""
+    mantissa = signed(line, first, first + 5)
+    return f"{mantissa} {signed(line, first + 6, first + 7) if mantissa else 0}"
+
+
+def fields(one, two):
+    year = whole(one, 19, 20)
+    day, units = whole(one, 21, 23), whole(one, 25, 32)
+    yield "number", whole(one, 3, 7)
+    yield "class", one[7:8].decode()
+    yield "designator", one[9:17].decode().strip() or "-"
+    yield "epoch", f"{year + (1900 if year >= 57 else 2000)} {day} {units * 864}"
+    yield "ndot", signed(one, 34, 43)
+    yield "nddot", exponential(one, 45)
+    yield "bstar", exponential(one, 54)
+    yield "type", whole(one, 63, 63)
+    yield "set", whole(one, 65, 68)
+    yield "inclination", whole(two, 9, 16)
+    yield "node", whole(two, 18, 25)
+    yield "eccentricity", whole(two, 27, 33)
+    yield "perigee", whole(two, 35, 42)
+    yield "anomaly", whole(two, 44, 51)
+    yield "motion", whole(two, 53, 63)
+    yield "revolution", whole(two, 64, 68)
+
+
+def printed(text):
+    """Two lines, each ended by a newline or the end of input; a missing one has
+    0 bytes, and later input is ignored."""
+    one, two = (text.split(b"\n") + [b""])[:2]
+    answer = judge(one, two).split()
+    if answer[0] == "refused":
+        return f"refused {answer[1]}\n"
+    return "".join(f"{name} {value}\n" for name, value in fields(one, two))
+
+
+# ------------------------------------------------------------------ the cases
+
+def pair(one=ONE, two=TWO):
+    return one + b"\n" + two + b"\n"
+
+
+def inputs():
+    yield pair() + b"a third line\n"
+    yield pair()[:-1]
+    # Designators, signs, years, leading blanks and zeros.
+    yield pair(line1(designator=" " * 8))
+    yield pair(line1(classification="C", designator="58002ABC", ndot="-.00000023",
+                     nddot="-12345+9", bstar="-28098-4", type="9"))
+    yield pair(line1(classification="S", designator="00067AB ", ndot="+.99999999",
+                     nddot="+00000-5", bstar="+00001+0"))
+    yield pair(line1(year="57", day="001.00000000"))
+    yield pair(line1(year="56", day="366.99999999"))
+    yield pair(line1(set="   0"),
+               line2(inclination="  0.0000", node="359.9999", eccentricity="0000000",
+                     perigee="000.0001", anomaly="  9.9999", motion=" 0.00000001",
+                     revolution="    0"))
+    yield pair(two=line2(inclination="180.0000"))
+    # Lengths, missing lines, carriage returns.
+    yield pair(ONE[:-1])
+    yield pair(two=TWO + b" ")
+    yield pair(ONE + b"\r", TWO + b"\r")
+    yield ONE + b"\n"
+    yield b""
+    yield b"\n" + pair()
+    yield pair(ONE * 4)
+    # Column 1, the layout, the checksum, the numbers.
+    yield pair(TWO, ONE)
+    yield pair(two=put(TWO, 1, ord("1")))
+    yield pair(two=put(TWO, 12, ord(",")))
+    yield pair(two=TWO[:8] + b"3 4" + TWO[11:])
+    yield pair(put(ONE, 15, ord("b")))
+    yield pair(put(ONE, LENGTH, ord("4")))
+    yield pair(two=put(TWO, LENGTH, ord("0")))
+    yield pair(put(line1(ndot="+.00000023"), LENGTH, ord("4")))
+    yield pair(two=line2(number="00006"))
+    # Ranges.
+    yield pair(line1(day="000.99999999"))
+    yield pair(line1(day="367.00000000"))
+    for field, text in (("inclination", "180.0001"), ("node", "360.0000"), ("perigee", "360.0000"),
+                        ("anomaly", "360.0000"), ("motion", " 0.00000000")):
+        yield pair(two=line2(**{field: text}))
+    # Which of two faults counts.
+    yield pair(put(ONE, LENGTH, ord("4")), b"2")
+    yield pair(two=line2(number="00006", inclination="180.0001"))
+
+
+# ------------------------------------------------------------------ the program
+
+def main():
+    parser = argparse.ArgumentParser(description=__doc__.split("\n")[0])
+    parser.add_argument("--write", nargs=2, metavar=("INPUT", "EXPECTED"))
+    options = parser.parse_args()
+    cases = list(inputs())
+    assert not any(mark in case for case in cases for mark in b"|~")
+    if options.write:
+        lines = (case.replace(b"\n", b"|").replace(b"\r", b"~") + b"\n" for case in cases)
+        texts = (f"case {n}\n{printed(case)}" for n, case in enumerate(cases, 1))
+        Path(options.write[0]).write_bytes(b"".join(lines))
+        Path(options.write[1]).write_text("".join(texts))
+    else:
+        print(len(cases), "cases")
+
+
+if __name__ == "__main__":
+    main()

@@ -1,0 +1,169 @@
+/*
+ * Wrong libraries, to see which tests fail on them. Linked in front of libsaddlekerf.a with
+ * -Wl,--wrap=FUNCTION for each function below, it is the library itself but for the one thing that
+ * the environment variable WRONG_LIBRARY names; without it all tests pass. tests/wrong_libraries
+ * runs every test on each.
+ */
+#include "saddlekerf.h"
+
+#include <stdlib.h>
+#include <string.h>
+
+#define PAIR const uint8_t *line1, size_t line1_length, const uint8_t *line2, size_t line2_length
+#define LENT_PAIR line1, line1_length, line2, line2_length
+#define SATELLITE double *numbers, size_t numbers_length, uint32_t *marks, size_t marks_length
+#define LENT_SATELLITE numbers, numbers_length, marks, marks_length
+
+uint64_t __real_saddlekerf_version(void);
+uint64_t __real_saddlekerf_read(PAIR);
+uint64_t __real_saddlekerf_print(PAIR, uint8_t *out, size_t out_length);
+uint64_t __real_saddlekerf_epoch(PAIR, uint64_t *instant);
+uint64_t __real_saddlekerf_record(PAIR, int64_t *fields, size_t fields_length);
+uint64_t __real_saddlekerf_write(const int64_t *fields, size_t fields_length, uint32_t line, uint8_t *out,
+                                 size_t out_length);
+uint64_t __real_saddlekerf_open(PAIR, SATELLITE);
+uint64_t __real_saddlekerf_request(SATELLITE, int64_t time, double *state, size_t state_length);
+uint64_t __real_saddlekerf_request_list(SATELLITE, const int64_t *times, size_t times_length, uint8_t *refusals,
+                                        size_t refusals_length, double *states, size_t states_length,
+                                        uint8_t *rounds, size_t rounds_length);
+
+static int wrong(const char *name)
+{
+    const char *chosen = getenv("WRONG_LIBRARY");
+    return chosen != NULL && strcmp(chosen, name) == 0;
+}
+
+/* A NaN loses its own bits, as after x + 0 with a NaN of the processor's; other numbers stay. */
+static void plain_nans(double *numbers, size_t length)
+{
+    const uint64_t plain = UINT64_C(0x7ff8000000000000);
+    size_t i;
+    for (i = 0; i < length; i++)
+        if (numbers[i] != numbers[i])
+            memcpy(&numbers[i], &plain, sizeof plain);
+}
+
+uint64_t __wrap_saddlekerf_version(void)
+{
+    return __real_saddlekerf_version() + (wrong("version") ? 1 : 0);
+}
+
+uint64_t __wrap_saddlekerf_read(PAIR)
+{
+    const uint64_t a = __real_saddlekerf_read(LENT_PAIR);
+    /* a value where the header has none */
+    return a == SADDLEKERF_CATALOGUE && wrong("read-value") ? a | 1 << 8 : a;
+}
+
+uint64_t __wrap_saddlekerf_print(PAIR, uint8_t *out, size_t out_length)
+{
+    const uint64_t a = __real_saddlekerf_print(LENT_PAIR, out, out_length);
+    if (a == SADDLEKERF_ROOM && out_length > 0 && wrong("print-refused"))
+        out[0] = 'n';
+    if (a >> 32 < out_length && (a & 255) == 0 && wrong("print-past"))
+        out[a >> 32] = 0;
+    return a;
+}
+
+uint64_t __wrap_saddlekerf_epoch(PAIR, uint64_t *instant)
+{
+    const uint64_t a = __real_saddlekerf_epoch(LENT_PAIR, instant);
+    if (a != 0 && wrong("epoch-refused"))
+        *instant = 0;
+    return a;
+}
+
+static void exchange(int64_t *fields)
+{
+    const int64_t kept = fields[SADDLEKERF_RECORD_PERIGEE];
+    fields[SADDLEKERF_RECORD_PERIGEE] = fields[SADDLEKERF_RECORD_ANOMALY];
+    fields[SADDLEKERF_RECORD_ANOMALY] = kept;
+}
+
+uint64_t __wrap_saddlekerf_record(PAIR, int64_t *fields, size_t fields_length)
+{
+    const uint64_t a = __real_saddlekerf_record(LENT_PAIR, fields, fields_length);
+    if (a == 0 && wrong("record-exchanged"))
+        exchange(fields);
+    if (a == 0 && fields_length > SADDLEKERF_FIELDS && wrong("record-past"))
+        fields[SADDLEKERF_FIELDS] = 0;
+    if (a != 0 && fields_length > 0 && wrong("record-refused"))
+        fields[0] = 0;
+    return a;
+}
+
+uint64_t __wrap_saddlekerf_write(const int64_t *fields, size_t fields_length, uint32_t line, uint8_t *out,
+                                 size_t out_length)
+{
+    int64_t copy[SADDLEKERF_FIELDS];
+    uint64_t a;
+    if (fields_length >= SADDLEKERF_FIELDS && (wrong("record-exchanged") || wrong("write-unjudged"))) {
+        memcpy(copy, fields, sizeof copy);
+        if (wrong("record-exchanged"))
+            exchange(copy);
+        else
+            copy[SADDLEKERF_RECORD_NODE] %= 3600000; /* a field out of its range written all the same */
+        fields = copy;
+    }
+    if (line == 0 && wrong("write-line"))
+        line = 1;
+    a = __real_saddlekerf_write(fields, fields_length, line, out, out_length);
+    if (a >> 32 == SADDLEKERF_LINE && wrong("write-checksum"))
+        out[SADDLEKERF_LINE - 1] = '0';
+    if (a >> 32 == SADDLEKERF_LINE && out_length > SADDLEKERF_LINE && wrong("write-past"))
+        out[SADDLEKERF_LINE] = 0;
+    if ((a & 255) != 0 && out_length > 0 && wrong("write-refused"))
+        out[0] = '1';
+    return a;
+}
+
+uint64_t __wrap_saddlekerf_open(PAIR, SATELLITE)
+{
+    const uint64_t a = __real_saddlekerf_open(LENT_PAIR, LENT_SATELLITE);
+    if (a != 0 && numbers_length >= SADDLEKERF_NUMBERS && wrong("open-refused"))
+        numbers[5] = 1.0;
+    if (a != 0 && numbers_length >= SADDLEKERF_NUMBERS && wrong("open-refused-place"))
+        numbers[1] = 0.0;
+    if (a != 0 && wrong("open-refused-nan"))
+        plain_nans(numbers, numbers_length);
+    return a;
+}
+
+uint64_t __wrap_saddlekerf_request(SATELLITE, int64_t time, double *state, size_t state_length)
+{
+    const uint64_t a = __real_saddlekerf_request(LENT_SATELLITE, time, state, state_length);
+    const unsigned refusal = saddlekerf_refusal(a);
+    if (refusal != 0 && state_length >= SADDLEKERF_STATE && wrong("request-refused"))
+        memset(state, 0, SADDLEKERF_STATE * sizeof *state);
+    if (refusal != 0 && wrong("request-refused-nan"))
+        plain_nans(state, state_length);
+    if (refusal == SADDLEKERF_TIME && wrong("request-place"))
+        marks[1] = 0;
+    if (refusal == 0 && wrong("request-model"))
+        numbers[40] = 1.0;
+    if (refusal == SADDLEKERF_STATE_NOT_FINITE && wrong("request-fifteen"))
+        return a - 1;
+    if (refusal >= SADDLEKERF_TIME && refusal <= SADDLEKERF_STATE_NOT_FINITE && wrong("request-rounds"))
+        return a | 4 << 8;
+    return a;
+}
+
+uint64_t __wrap_saddlekerf_request_list(SATELLITE, const int64_t *times, size_t times_length, uint8_t *refusals,
+                                        size_t refusals_length, double *states, size_t states_length,
+                                        uint8_t *rounds, size_t rounds_length)
+{
+    const uint64_t a = __real_saddlekerf_request_list(LENT_SATELLITE, times, times_length, refusals, refusals_length,
+                                                      states, states_length, rounds, rounds_length);
+    const size_t past = SADDLEKERF_STATE * times_length;
+    if (saddlekerf_refusal(a) == 0 && states_length > past && wrong("list-past"))
+        states[past] = 0.0;
+    if (saddlekerf_refusal(a) == 0 && states_length > past && wrong("list-past-nan"))
+        plain_nans(states + past, states_length - past);
+    if (saddlekerf_refusal(a) != 0 && wrong("list-refused"))
+        memset(refusals, 0, refusals_length);
+    if (saddlekerf_refusal(a) != 0 && wrong("list-refused-nan"))
+        plain_nans(states, states_length);
+    if (saddlekerf_refusal(a) != 0 && marks_length >= SADDLEKERF_MARKS && wrong("list-refused-place"))
+        marks[1] = 0;
+    return a;
+}
