@@ -1,4 +1,3 @@
 pub mod Dscom
 pub mod Dsinit
-pub mod Dpper
 pub mod Finite

@@ -27,7 +27,7 @@ use Rattle.near_earth.specs.Sgp4init.{atmosphere, shape, drag, aycof, terms, ke
 use Rattle.near_earth.specs.Finite.{finiteNear, finiteElements, finiteDrag, finiteHigher, finiteRates, finiteTerms}
 use Rattle.lunar_solar.specs.Finite as L
 use Rattle.resonance.specs.Place.{atEpoch, epochOf}
-use Rattle.resonance.specs.Finite.{finiteIntegrator, finiteKind}
+use Rattle.resonance_terms.specs.Finite.{finiteIntegrator, finiteKind}
 use Rattle.opening.specs.declared.opening.Satellite.{Satellite}
 use Rattle.opening.specs.declared.opening.Opening.the-variants as opening
 use Rattle.opening.specs.Elements.{elementsOf}

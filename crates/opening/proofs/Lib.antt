@@ -2,7 +2,7 @@
 mod Tests
 mod FloatLaws
 mod Guard
-mod Ahead
+mod AheadSame
 mod Inside
 pub mod Made
 pub mod AllFinite

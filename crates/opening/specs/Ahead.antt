@@ -1,12 +1,12 @@
--- The deep-space initialization with its longest steps begun ahead, which serves speed alone. proofs/Ahead: it comes to the same. Definitions only.
+-- The deep-space initialization with its longest steps begun ahead, which serves speed alone. proofs/AheadSame: it comes to the same. Definitions only.
 use lib.Ieee.{Float}
 use Rattle.satellite.specs.declared.Elements.{Elements}
 use Rattle.satellite.specs.declared.NearEarth.{NearEarth}
 use Rattle.satellite.specs.declared.DeepSpace.{DeepSpace}
 use Rattle.lunar_solar.specs.Dscom.{anglesOf, lunarOf, dscomFrom}
 use Rattle.lunar_solar.specs.Dsinit.{secularOf}
-use Rattle.resonance.specs.Dsinit.{aonvOf, dsinitFrom}
-use Rattle.opening.specs.declared.deep_space.Ahead.{Ahead}
+use Rattle.resonance_terms.specs.Dsinit.{aonvOf, dsinitFrom}
+use Rattle.opening.specs.declared.ahead.Ahead.{Ahead}
 use Rattle.opening.specs.DeepSpace.{tc, setUp, orbit, atEpoch}
 
 -- of the epoch in days, the elements and the recovered mean motion

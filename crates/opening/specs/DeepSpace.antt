@@ -5,13 +5,13 @@ use Rattle.elementary.specs.Notation.{_⊕_, dec}
 use Rattle.satellite.specs.declared.NearEarth.{NearEarth}
 use Rattle.satellite.specs.declared.DeepSpace.{DeepSpace}
 use Rattle.lunar_solar.specs.declared.dscom.Common.{Common}
-use Rattle.lunar_solar.specs.declared.dpper.Perturbed.{Perturbed}
+use Rattle.periodics.specs.declared.dpper.Perturbed.{Perturbed}
 use Rattle.lunar_solar.specs.Dscom.{dscomOf}
-use Rattle.lunar_solar.specs.Dpper.{dpperOf}
+use Rattle.periodics.specs.Dpper.{dpperOf}
 use Rattle.lunar_solar.specs.Dsinit.{secularOf}
-use Rattle.resonance.specs.declared.dsinit.Orbit.{Orbit}
-use Rattle.resonance.specs.declared.dsinit.Epoch.{Epoch}
-use Rattle.resonance.specs.Dsinit.{dsinitOf}
+use Rattle.resonance_terms.specs.declared.dsinit.Orbit.{Orbit}
+use Rattle.resonance_terms.specs.declared.dsinit.Epoch.{Epoch}
+use Rattle.resonance_terms.specs.Dsinit.{dsinitOf}
 
 -- 3136: tc is 0.0
 abbrev pub tc : Float

@@ -28,7 +28,7 @@ use Rattle.lunar_solar.specs.Finite.{finiteRates, finiteLunarSolar}
 use Rattle.resonance.specs.declared.place.Place.{Place}
 use Rattle.resonance.specs.declared.place.Side.the-variants as side
 use Rattle.resonance.specs.Place as P
-use Rattle.resonance.specs.Finite.{finiteIntegrator}
+use Rattle.resonance_terms.specs.Finite.{finiteIntegrator}
 use Rattle.opening.specs.declared.opening.Satellite.{Satellite}
 use Rattle.opening.specs.declared.opening.Refusal.{Refusal}
 use Rattle.opening.specs.declared.opening.Refusal.the-variants as refusal

@@ -2,45 +2,18 @@
 ghost use mathlib.Core.Path.{_≡_};
 ghost use Rattle.opening.specs.DeepSpace as D;
 ghost use Rattle.opening.specs.Ahead as W;
+use crate::ahead::Ahead;
 use instant::Days;
 use instant::Minutes;
 use instant::Radians;
-use lunar_solar::dscom::Angles;
 use lunar_solar::dscom::Common;
-use lunar_solar::dscom::Lunar;
-use lunar_solar::dscom::angles_of;
 use lunar_solar::dscom::dscom;
-use lunar_solar::dscom::lunar_of;
 use lunar_solar::dsinit::secular_rates;
-use resonance::dsinit::Epoch;
-use resonance::dsinit::Orbit;
-use resonance::dsinit::aonv_of;
-use resonance::dsinit::dsinit;
+use resonance_terms::dsinit::Epoch;
+use resonance_terms::dsinit::Orbit;
+use resonance_terms::dsinit::dsinit;
 use satellite::DeepSpace;
-use satellite::Elements;
 use satellite::NearEarth;
-
-// What deep space needs of the epoch, the angles and the mean motion alone. Its steps are long, and
-// nothing of the near-Earth part waits for them, nor they for it: begun first, they run beside it.
-pub struct Ahead {
-    pub aonv: f64,
-    pub angles: Angles,
-    pub lunar: Lunar,
-}
-
-// `no` is the recovered mean motion.
-pub fn ahead_of(epoch: Days, el: Elements, no: f64) -> Ahead
-    ensures { λ r. ⌜ r ≡ W.aheadOf (epoch .0) el no ⌝ }
-{
-    let aonv = aonv_of(no);
-    let lunar = lunar_of(epoch, Minutes(0.0));
-    let angles = angles_of(Radians(el.argpo), Radians(el.inclo), Radians(el.nodeo));
-    Ahead {
-        aonv,
-        angles,
-        lunar,
-    }
-}
 
 fn orbit(c: Common, ecco: f64, eccsq: f64) -> Orbit
     ensures { λ r. ⌜ r ≡ D.orbit c ecco eccsq ⌝ }

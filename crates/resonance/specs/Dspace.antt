@@ -9,7 +9,7 @@ use Rattle.satellite.specs.declared.Integrator.{Integrator}
 use Rattle.resonance.specs.declared.dots.Dots.{Dots}
 use Rattle.resonance.specs.declared.place.Place.{Place}
 use Rattle.resonance.specs.declared.dspace.Mean.{Mean}
-use Rattle.resonance.specs.Dsinit.{thetaOf}
+use Rattle.resonance_terms.specs.Dsinit.{thetaOf}
 use Rattle.resonance.specs.Place.{atimeOf, dotsAt}
 
 -- 2615-2620

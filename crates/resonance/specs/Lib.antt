@@ -1,6 +1,4 @@
-pub mod Dsinit
 pub mod Dots
 pub mod Place
 pub mod Dspace
 pub mod Time
-pub mod Finite

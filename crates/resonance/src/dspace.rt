@@ -3,10 +3,10 @@
 ghost use mathlib.Core.Path.{_≡_};
 ghost use Rattle.resonance.specs.Dspace as D;
 use crate::dots::Dots;
-use crate::dsinit::theta_of;
 use crate::place::Place;
 use instant::Minutes;
 use instant::Radians;
+use resonance_terms::dsinit::theta_of;
 use satellite::Integrator;
 use satellite::Resonance;
 use satellite::SecularRates;

@@ -21,7 +21,7 @@ use Rattle.state.specs.declared.answer.Pair.the-variants.{Both, Apart}
 use Rattle.state.specs.Secular.{noMotion, outside}
 use Rattle.state.specs.Two.{pairOf}
 use Rattle.state.proofs.Two.{Same, Readied, ready-on, pair-same, near-readied}
-use Rattle.lunar_solar.specs.declared.dpper.Perturbed as dpper
+use Rattle.periodics.specs.declared.dpper.Perturbed as dpper
 use Rattle.resonance.specs.declared.place.Place.{Place}
 use Rattle.resonance.specs.declared.dspace.Mean as dspace
 use Rattle.sgp4.specs.declared.Row.{Row}

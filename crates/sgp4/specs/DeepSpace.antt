@@ -19,8 +19,8 @@ use Rattle.state.specs.declared.answer.Answer.{Answer}
 use Rattle.state.specs.declared.answer.Answer.the-variants.{Refused}
 use Rattle.state.specs.Secular.{secular, noMotion, mean, outside, mended, angles}
 use Rattle.state.specs.Sgp4.{periodics}
-use Rattle.lunar_solar.specs.declared.dpper.Perturbed as dpper
-use Rattle.lunar_solar.specs.Dpper.{dpperOf}
+use Rattle.periodics.specs.declared.dpper.Perturbed as dpper
+use Rattle.periodics.specs.Dpper.{dpperOf}
 use Rattle.resonance.specs.declared.place.Place.{Place}
 use Rattle.resonance.specs.declared.dspace.Mean as dspace
 use Rattle.resonance.specs.Dspace.{dspaceOf}

@@ -15,8 +15,8 @@ use Rattle.state.specs.declared.parts.ReadyPair.{ReadyPair}
 use Rattle.state.specs.declared.parts.ReadyPair.the-variants.{Both, Apart}
 use Rattle.state.specs.Secular.{secular, noMotion, mean, outside, angles}
 use Rattle.state.specs.Two as near
-use Rattle.lunar_solar.specs.declared.dpper.Perturbed as dpper
-use Rattle.lunar_solar.specs.Dpper.{dpperOf}
+use Rattle.periodics.specs.declared.dpper.Perturbed as dpper
+use Rattle.periodics.specs.Dpper.{dpperOf}
 use Rattle.resonance.specs.declared.place.Place.{Place}
 use Rattle.resonance.specs.declared.dspace.Mean as dspace
 use Rattle.resonance.specs.Dspace.{dspaceOf}

@@ -4,9 +4,9 @@ ghost use Rattle.sgp4.specs.DeepSpace as D;
 use elementary::sin_cos;
 use elementary::two_thirds;
 use instant::Minutes;
-use lunar_solar::dpper::dpper;
 use near_earth::sgp4init::aycof;
 use near_earth::sgp4init::xlcof;
+use periodics::dpper::dpper;
 use resonance::dspace::dspace;
 use resonance::place::Place;
 use satellite::DeepSpace;
@@ -61,11 +61,11 @@ fn updated(g: Secular, d: resonance::dspace::Mean) -> Secular
 }
 
 // The mean elements that dpper is handed.
-fn averages(em: f64, inclm: f64, a: Angles) -> lunar_solar::dpper::Perturbed
+fn averages(em: f64, inclm: f64, a: Angles) -> periodics::dpper::Perturbed
     ensures { λ r. ⌜ r ≡ D.averages em inclm a ⌝ }
 {
     let ep = mended(em);
-    lunar_solar::dpper::Perturbed {
+    periodics::dpper::Perturbed {
         ep,
         inclp: inclm,
         nodep: a.nodem,
@@ -75,11 +75,11 @@ fn averages(em: f64, inclm: f64, a: Angles) -> lunar_solar::dpper::Perturbed
 }
 
 // 002's turn of a negative perturbed inclination.
-fn righted(x: lunar_solar::dpper::Perturbed) -> lunar_solar::dpper::Perturbed
+fn righted(x: periodics::dpper::Perturbed) -> periodics::dpper::Perturbed
     ensures { λ r. ⌜ r ≡ D.righted x ⌝ }
 {
     if x.inclp < 0.0 {
-        return lunar_solar::dpper::Perturbed {
+        return periodics::dpper::Perturbed {
             ep: x.ep,
             inclp: -x.inclp,
             nodep: x.nodep + PI,
@@ -97,7 +97,7 @@ fn no_ellipse(ep: f64) -> bool
     (ep < 0.0) | (ep > 1.0)
 }
 
-fn inclined(x: lunar_solar::dpper::Perturbed, sinip: f64, cosip: f64) -> Perturbed
+fn inclined(x: periodics::dpper::Perturbed, sinip: f64, cosip: f64) -> Perturbed
     ensures { λ r. ⌜ r ≡ D.inclined x sinip cosip ⌝ }
 {
     Perturbed {
@@ -127,7 +127,7 @@ fn anew(sinip: f64, cosip: f64) -> Terms
     }
 }
 
-fn perturbed(x: lunar_solar::dpper::Perturbed, am: f64) -> Answer
+fn perturbed(x: periodics::dpper::Perturbed, am: f64) -> Answer
     ensures { λ r. ⌜ r ≡ D.perturbed x am ⌝ }
 {
     if no_ellipse(x.ep) {

@@ -27,10 +27,10 @@ use Rattle.near_earth.specs.Sgp4init as near
 use Rattle.near_earth.specs.Finite as nearFinite
 use Rattle.lunar_solar.specs.Dscom.{anglesOf, shapeOf, dayOf, gamOf, sunOf, lunarOf, moonOf, axesOf, zOf, sOf, passOf, periodicsOf, zmolOf, zmosOf, bothOf, dscomFrom, dscomOf}
 use Rattle.lunar_solar.specs.Dsinit.{ratesOf, guardedOf, joinedBy, joinedOf, secularOf}
-use Rattle.lunar_solar.specs.Dpper.{dpperOf}
+use Rattle.periodics.specs.Dpper.{dpperOf}
 use Rattle.lunar_solar.specs.Finite as bodyFinite
-use Rattle.resonance.specs.Dsinit.{oneDay, halfDay, oneDayOf, g520Of, lowOf, highOf, inclinedOf, halfDaySum, halfDayOf, kindOf, thetaOf, halfDayStart, oneDayStart, startOf, aonvOf, dsinitFrom, dsinitOf}
-use Rattle.resonance.specs.Finite.{finiteOneDay, finiteHalfDay, finiteKind, finiteIntegrator}
+use Rattle.resonance_terms.specs.Dsinit.{oneDay, halfDay, oneDayOf, g520Of, lowOf, highOf, inclinedOf, halfDaySum, halfDayOf, kindOf, thetaOf, halfDayStart, oneDayStart, startOf, aonvOf, dsinitFrom, dsinitOf}
+use Rattle.resonance_terms.specs.Finite.{finiteOneDay, finiteHalfDay, finiteKind, finiteIntegrator}
 use Rattle.resonance.specs.Time.{resonant}
 use Rattle.opening.specs.declared.opening.Satellite.{Satellite}
 use Rattle.opening.specs.declared.opening.PairOpening.{PairOpening}

@@ -11,7 +11,7 @@ use crate::deep_space::updated;
 use elementary::sin_cos;
 use elementary::two_thirds;
 use instant::Minutes;
-use lunar_solar::dpper::dpper;
+use periodics::dpper::dpper;
 use resonance::dspace::dspace;
 use resonance::place::Place;
 use satellite::DeepSpace;
@@ -37,9 +37,9 @@ pub struct Drift {
 }
 
 fn perturbed_two(
-    x: lunar_solar::dpper::Perturbed,
+    x: periodics::dpper::Perturbed,
     am: f64,
-    x2: lunar_solar::dpper::Perturbed,
+    x2: periodics::dpper::Perturbed,
     am2: f64,
 ) -> ReadyPair
     ensures { λ r. ⌜ r ≡ W.perturbedTwo x am x2 am2 ⌝ }

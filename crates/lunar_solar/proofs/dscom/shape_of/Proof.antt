@@ -5,6 +5,9 @@ use borrow.Author.Needs.{needs}
 use Rattle.lunar_solar.proofs.dscom.shape_of.Statement.{statement}
 use Rattle.lunar_solar.proofs.dscom.shape_of.Tie as tie
 
-pub shape-of-spec : {M : Type 1} → statement M
+returns : tie.Need-returns
 unfolding shapeOf round units odd size span climb trailingZeros ofBits neg
-shape-of-spec = tie.close (tie.spec (λ c κs. search needs) (λ c. cc))
+returns c = simp (c .sqrt .ensures)
+
+pub shape-of-spec : {M : Type 1} → statement M
+shape-of-spec = tie.close (tie.spec (λ c κs. search needs) returns)

@@ -5,6 +5,9 @@ use borrow.Author.Needs.{needs}
 use Rattle.lunar_solar.proofs.dscom.zmol_of.Statement.{statement}
 use Rattle.lunar_solar.proofs.dscom.zmol_of.Tie as tie
 
-pub zmol-of-spec : {M : Type 1} → statement M
+returns : tie.Need-returns
 unfolding zmolOf round units odd size span climb trailingZeros ofBits neg
-zmol-of-spec = tie.close (tie.spec (λ c κs. search needs) (λ c. cc))
+returns c = simp (c .rem-turn .ensures)
+
+pub zmol-of-spec : {M : Type 1} → statement M
+zmol-of-spec = tie.close (tie.spec (λ c κs. search needs) returns)

@@ -5,8 +5,13 @@ use borrow.Author.Needs.{needs}
 use Rattle.lunar_solar.proofs.finite.finite_rates.Statement.{statement}
 use Rattle.lunar_solar.proofs.finite.finite_rates.Tie as tie
 
-pub finite-rates-spec : {M : Type 1} → statement M
+returns : tie.Need-returns
 unfolding finiteRates round units odd size span climb trailingZeros ofBits neg
+returns c =
+    let c1 = c .before .before in
+    simp (c .is-finite5 .ensures, c .before .is-finite4 .ensures, c .before .before .is-finite3 .ensures, c1 .before .is-finite2 .ensures, c1 .before .before .is-finite .ensures)
+
+pub finite-rates-spec : {M : Type 1} → statement M
 finite-rates-spec =
     tie.close
-    (tie.spec (λ c κs. search needs) (λ c κs. search needs) (λ c κs. search needs) (λ c κs. search needs) (λ c κs. search needs) (λ c. cc))
+    (tie.spec (λ c κs. search needs) (λ c κs. search needs) (λ c κs. search needs) (λ c κs. search needs) (λ c κs. search needs) returns)

@@ -1,6 +1,6 @@
 use lib.Ieee.{round, units, odd, size, span, climb, ofBits, neg}
 use lib.Count.{trailingZeros}
-use Rattle.lunar_solar.specs.Dpper.{dpperOf}
+use Rattle.periodics.specs.Dpper.{dpperOf}
 use Rattle.opening.specs.DeepSpace.{setUp, unchanged}
 use Rattle.opening.specs.Ahead.{deepSpaceFrom}
 use borrow.Author.Needs.{needs}

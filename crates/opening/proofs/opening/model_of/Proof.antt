@@ -1,5 +1,5 @@
 use borrow.Author.Needs.{needs}
-use Rattle.opening.proofs.Ahead.{deep-model, near-model}
+use Rattle.opening.proofs.AheadSame.{deep-model, near-model}
 use Rattle.opening.proofs.opening.model_of.Statement.{statement}
 use Rattle.opening.proofs.opening.model_of.Tie as tie
 

@@ -5,6 +5,9 @@ use borrow.Author.Needs.{needs}
 use Rattle.resonance.proofs.time.in_range.Statement.{statement}
 use Rattle.resonance.proofs.time.in_range.Tie as tie
 
-pub in-range-spec : {M : Type 1} → statement M
+returns : tie.Need-returns
 unfolding inRange round units odd size span climb trailingZeros ofBits neg
-in-range-spec = tie.close (tie.spec (λ c κs. search needs) (λ c. cc))
+returns c = simp (c .distance .ensures)
+
+pub in-range-spec : {M : Type 1} → statement M
+in-range-spec = tie.close (tie.spec (λ c κs. search needs) returns)

@@ -5,6 +5,11 @@ use borrow.Author.Needs.{needs}
 use Rattle.resonance.proofs.place.Place.dots.Statement.{statement}
 use Rattle.resonance.proofs.place.Place.dots.Tie as tie
 
-pub dots-spec : {M : Type 1} → statement M
+returns : tie.Need-returns
 unfolding dotsAt round units odd size span climb trailingZeros ofBits neg
-dots-spec = tie.close (tie.spec (λ c κs. search needs) (λ c κs. search needs) (λ c. cc))
+returns c =
+    let c1 = c .before .before in
+    simp (c .dots-of .ensures, c1 .before .atime .ensures)
+
+pub dots-spec : {M : Type 1} → statement M
+dots-spec = tie.close (tie.spec (λ c κs. search needs) (λ c κs. search needs) returns)

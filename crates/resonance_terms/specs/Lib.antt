@@ -1,0 +1,2 @@
+pub mod Dsinit
+pub mod Finite
