@@ -2,6 +2,4 @@ pub mod Version
 pub mod Answer
 pub mod Pairs
 pub mod Records
-pub mod Trips
 pub mod Requests
-pub mod Sequences
