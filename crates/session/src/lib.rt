@@ -3,11 +3,12 @@
 // satellite. After a refused pair requests print nothing.
 mod answer;
 
+ghost use Prim.Native.Nat.{_≤_, _<_};
 use answer::answer;
-use answer::print_refused;
 use opening::opening::PairOpening;
 use opening::opening::Satellite;
 use opening::opening::open_pair;
+use printing::print_refused;
 use streams::print;
 use text::Lines;
 use text::gather;
@@ -26,43 +27,52 @@ struct Progress {
     many: bool,
 }
 
-// How far the input has been read: what its lines came to, and how many bytes the next has so far.
+// How far the input has been read: what its lines came to, how many bytes the next has so far, and
+// whether there may be more.
 struct Run {
     progress: Progress,
     size: usize,
+    more: bool,
+}
+
+fn opened(failed: &mut bool, satellite: Satellite) -> Stage {
+    print(failed, b"opened\n");
+    Stage::Asking(satellite)
+}
+
+fn refused(failed: &mut bool, n: u64) -> Stage {
+    print_refused(failed, n);
+    Stage::Over
 }
 
 fn print_opening(failed: &mut bool, opening: PairOpening) -> Stage {
     match opening {
-        PairOpening::Opened(satellite) => {
-            print(failed, b"opened\n");
-            Stage::Asking(satellite)
-        }
-        PairOpening::Unread(why) => {
-            print_refused(failed, why.number());
-            Stage::Over
-        }
-        PairOpening::Refused(why) => {
-            print_refused(failed, why.number());
-            Stage::Over
-        }
+        PairOpening::Opened(satellite) => opened(failed, satellite),
+        PairOpening::Unread(why) => refused(failed, why.number()),
+        PairOpening::Refused(why) => refused(failed, why.number()),
     }
 }
 
 // Of a line of the pair at most 70 bytes are kept.
+fn kept(size: usize) -> usize
+    ensures { λ r. ⌜ r ≤ 70 ⌝ }
+{
+    if size <= 70 {
+        return size;
+    }
+    70
+}
+
 fn open_kept(
     failed: &mut bool,
     bytes1: [u8; 70],
     size1: usize,
     bytes2: [u8; 70],
     size2: usize,
-) -> Stage {
-    if size1 <= 70 {
-        if size2 <= 70 {
-            return print_opening(failed, open_pair(&bytes1[0..size1], &bytes2[0..size2]));
-        }
-    }
-    Stage::Over
+) -> Stage
+    requires { ⌜ (size1 ≤ 70) × (size2 ≤ 70) ⌝ }
+{
+    print_opening(failed, open_pair(&bytes1[0..size1], &bytes2[0..size2]))
 }
 
 fn open_lines(failed: &mut bool, lines: Lines) -> Stage {
@@ -70,20 +80,22 @@ fn open_lines(failed: &mut bool, lines: Lines) -> Stage {
     let second = lines.second;
     let bytes1 = first.bytes;
     let bytes2 = second.bytes;
-    open_kept(failed, bytes1, first.size, bytes2, second.size)
+    let size1 = kept(first.size);
+    let size2 = kept(second.size);
+    open_kept(failed, bytes1, size1, bytes2, size2)
+}
+
+fn pair_stage(failed: &mut bool, lines: Lines) -> Stage {
+    if lines.ended < 2 {
+        return Stage::Pair;
+    }
+    open_lines(failed, lines)
 }
 
 fn pair_line(failed: &mut bool, lines: Lines, many: bool, line: &[u8]) -> Progress {
     let lines = lines.feed(line);
     let lines = lines.feed(b"\n");
-    if lines.ended < 2 {
-        return Progress {
-            lines,
-            stage: Stage::Pair,
-            many,
-        };
-    }
-    let stage = open_lines(failed, lines);
+    let stage = pair_stage(failed, lines);
     Progress { lines, stage, many }
 }
 
@@ -94,28 +106,39 @@ fn begins_pair(line: &[u8]) -> bool {
     line[0] == b'1'
 }
 
+fn start(many: bool) -> Progress {
+    let lines = Lines::start();
+    Progress {
+        lines,
+        stage: Stage::Pair,
+        many,
+    }
+}
+
+// A line that begins another pair begins everything anew.
+fn before_line(progress: Progress, line: &[u8]) -> Progress {
+    if progress.many & begins_pair(line) {
+        return start(true);
+    }
+    progress
+}
+
+fn answered(failed: &mut bool, satellite: Satellite, line: &[u8]) -> Stage {
+    Stage::Asking(answer(failed, satellite, line))
+}
+
 fn whole_line(failed: &mut bool, progress: Progress, line: &[u8]) -> Progress {
+    let progress = before_line(progress, line);
     let lines = progress.lines;
     let stage = progress.stage;
     let many = progress.many;
-    if many & begins_pair(line) {
-        return pair_line(failed, Lines::start(), many, line);
-    }
     match stage {
         Stage::Pair => pair_line(failed, lines, many, line),
         Stage::Asking(satellite) => {
-            let satellite = answer(failed, satellite, line);
-            Progress {
-                lines,
-                stage: Stage::Asking(satellite),
-                many,
-            }
+            let stage = answered(failed, satellite, line);
+            Progress { lines, stage, many }
         }
-        Stage::Over => Progress {
-            lines,
-            stage: Stage::Over,
-            many,
-        },
+        Stage::Over => progress,
     }
 }
 
@@ -143,43 +166,42 @@ fn feed(failed: &mut bool, run: Run, line: &mut [u8], piece: &[u8]) -> Run {
         }
         i = g.next;
     }
-    Run { progress, size }
+    Run {
+        progress,
+        size,
+        more: piece.len() > 0,
+    }
 }
 
-// The state after a read, and whether to go on.
-struct Turn {
-    run: Run,
-    more: bool,
-}
-
-fn read_more(failed: &mut bool, run: Run, line: &mut [u8]) -> Turn {
+fn read_more(failed: &mut bool, run: Run, line: &mut [u8]) -> Run {
     let mut buffer = io::buffer();
     let n = streams::read(failed, &mut buffer);
-    if n == 0 {
-        return Turn { run, more: false };
+    feed(failed, run, line, &buffer[..n])
+}
+
+fn turns_left(turns: u64, more: bool) -> u64
+    requires { ⌜ 0 < turns ⌝ }
+    ensures { λ r. ⌜ r < turns ⌝ }
+{
+    if more {
+        return turns - 1;
     }
-    let run = feed(failed, run, line, &buffer[..n]);
-    Turn { run, more: true }
+    0
 }
 
 // A proved loop has to end, and nothing says that the input does. So it counts its turns down, from a
 // number that no run uses up.
 fn read_all(failed: &mut bool, many: bool, line: &mut [u8]) -> Run {
-    let lines = Lines::start();
-    let progress = Progress {
-        lines,
-        stage: Stage::Pair,
-        many,
+    let progress = start(many);
+    let mut run = Run {
+        progress,
+        size: 0,
+        more: true,
     };
-    let mut run = Run { progress, size: 0 };
     let mut turns = u64::MAX;
     while turns > 0 {
-        let turn = read_more(failed, run, line);
-        run = turn.run;
-        if !turn.more {
-            return run;
-        }
-        turns -= 1;
+        run = read_more(failed, run, line);
+        turns = turns_left(turns, run.more);
     }
     run
 }
@@ -194,12 +216,8 @@ fn finish(failed: &mut bool, run: Run, line: &[u8]) {
     }
     let lines = progress.lines;
     let stage = progress.stage;
-    match stage {
-        Stage::Pair => {
-            open_lines(failed, lines);
-        }
-        Stage::Asking(_) => {}
-        Stage::Over => {}
+    if let Stage::Pair = stage {
+        open_lines(failed, lines);
     }
 }
 

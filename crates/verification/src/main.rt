@@ -18,13 +18,13 @@ use instant::Microseconds;
 use opening::opening::PairOpening;
 use opening::opening::Satellite;
 use opening::opening::open_pair;
+use printing::print_refused;
 use refusal_line::put_refusal;
 use request_line::Request;
 use request_line::read_request;
 use requests::request;
 use sgp4::Row;
 use streams::print;
-use text::put_line;
 
 // What the lines so far came to: nothing, the first line of a pair (from where to where it stands), a
 // satellite, or a pair that was refused.
@@ -74,14 +74,6 @@ fn print_unread(failed: &mut bool, refusal: tle::Refusal) {
     }
 }
 
-fn print_refused(failed: &mut bool, n: u64) {
-    let mut out = [0u8; 64];
-    let size = put_line(&mut out, 0, b"refused ", n);
-    if size <= 64 {
-        print(failed, &out[0..size]);
-    }
-}
-
 fn print_opening(failed: &mut bool, opening: PairOpening) -> Stage {
     match opening {
         PairOpening::Opened(satellite) => Stage::Open(satellite),
@@ -100,6 +92,18 @@ fn wide(n: u8) -> u64 {
     n as u64
 }
 
+fn print_off(failed: &mut bool, time: i64, km: f64) {
+    if is_off(km) {
+        print_timed(
+            failed,
+            b"at ",
+            time,
+            b" off by micrometres ",
+            micrometres(km),
+        );
+    }
+}
+
 // A published row's time and position are the four numbers of its line.
 fn compare(failed: &mut bool, tally: Tally, row: Row, numbers: [i64; 4]) -> Tally {
     if row.refusal > 0 {
@@ -107,15 +111,7 @@ fn compare(failed: &mut bool, tally: Tally, row: Row, numbers: [i64; 4]) -> Tall
         return tally.with_refused();
     }
     let km = difference(row.x, row.y, row.z, numbers[1], numbers[2], numbers[3]);
-    if is_off(km) {
-        print_timed(
-            failed,
-            b"at ",
-            numbers[0],
-            b" off by micrometres ",
-            micrometres(km),
-        );
-    }
+    print_off(failed, numbers[0], km);
     tally.with_compared(km)
 }
 
@@ -193,19 +189,22 @@ fn refused_with_pair(failed: &mut bool, tally: Tally, line: &[u8]) -> Tally {
     }
 }
 
+fn at_most(n: usize, most: usize) -> usize
+    ensures { λ r. ⌜ r ≤ most ⌝ }
+{
+    if n <= most {
+        return n;
+    }
+    most
+}
+
+// The first line stands where it was found, within the input.
 fn second_line(failed: &mut bool, input: &[u8], from: usize, to: usize, line: &[u8]) -> Progress {
     let tally = Tally::start();
-    if from <= to {
-        if to <= input.len() {
-            let stage = print_opening(failed, open_pair(&input[from..to], line));
-            return Progress { stage, tally };
-        }
-    }
-    print_not_read(failed);
-    Progress {
-        stage: Stage::Refused,
-        tally,
-    }
+    let to = at_most(to, input.len());
+    let from = at_most(from, to);
+    let stage = print_opening(failed, open_pair(&input[from..to], line));
+    Progress { stage, tally }
 }
 
 fn end_satellite(failed: &mut bool, progress: Progress) {
@@ -232,10 +231,7 @@ fn within_satellite(failed: &mut bool, progress: Progress, input: &[u8], line: &
     match stage {
         Stage::Nothing => {
             print_not_read(failed);
-            Progress {
-                stage: Stage::Nothing,
-                tally,
-            }
+            progress
         }
         Stage::First(from, to) => second_line(failed, input, from, to, line),
         Stage::Open(satellite) => ask(failed, satellite, tally, line),
