@@ -30,9 +30,10 @@ use Rattle.requests.proofs.Demand3.{demand-3}
 use Rattle.storage.specs.Storage.{tooShort, satelliteOf, placeNumbers, placeMarks, storeRefusal, storedNumbers, storedMarks, placedNumbers, placedMarks}
 use Rattle.storage.proofs.Rooms.{enough, length-numbers, length-marks}
 use Rattle.storage.proofs.Kept.{kept, placed}
-use Rattle.saddlekerf.specs.Answer.{answer, refusalAnswer}
+use Rattle.lent_requests.specs.Answer.{answer}
+use Rattle.saddlekerf.specs.Answer.{refusalAnswer}
 use Rattle.saddlekerf.specs.Pairs.{openAnswer, openNumbers, openMarks}
-use Rattle.saddlekerf.specs.Requests.{requestShort, rowPut, keptNumbers, keptMarks, Requested, listNumber, Listed}
+use Rattle.lent_requests.specs.Requests.{requestShort, rowPut, keptNumbers, keptMarks, Requested, listNumber, Listed}
 use Rattle.boundary_claims.specs.Sequences.{Memory, openedIn, Call, One, Many, Does, Calls, callTimes, timesOf, Tells, Told, toldStrides, aloneStrides, Sequences}
 
 -- ── the requests behind calls ──

@@ -17,9 +17,9 @@ use Rattle.sgp4.specs.Sgp4.{integratorOf}
 use Rattle.requests.specs.Lists.{listRefusal, listTimes, refusalsOf, statesOf, roundsOf, over}
 use Rattle.requests.specs.Demand3 as D
 use Rattle.storage.specs.Storage.{satelliteOf}
-use Rattle.saddlekerf.specs.Answer.{answer}
+use Rattle.lent_requests.specs.Answer.{answer}
 use Rattle.saddlekerf.specs.Pairs.{openAnswer, openNumbers, openMarks}
-use Rattle.saddlekerf.specs.Requests.{rowPut, RequestPost, ListPost}
+use Rattle.lent_requests.specs.Requests.{rowPut, RequestPost, ListPost}
 
 -- the memory of a satellite
 pub record Memory : Type 0 where

@@ -10,7 +10,7 @@ use Rattle.tle.specs.declared.Record.{Record}
 use Rattle.tle.specs.declared.Reading.the-variants as reading
 use Rattle.tle_writer.specs.Lines.{lineOf}
 use Rattle.record_numbers.specs.Numbers.{givenOf}
-use Rattle.saddlekerf.specs.Answer.{answer}
+use Rattle.lent_requests.specs.Answer.{answer}
 use Rattle.saddlekerf.specs.Records.{recordFields, writeAnswer, writeOut}
 
 -- the numbers `fields` hold the record r: `saddlekerf_write` answers both its lines, in the writer's spelling, and reading those gives r

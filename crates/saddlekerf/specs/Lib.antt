@@ -2,4 +2,3 @@ pub mod Version
 pub mod Answer
 pub mod Pairs
 pub mod Records
-pub mod Requests

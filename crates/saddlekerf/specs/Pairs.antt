@@ -13,7 +13,8 @@ use Rattle.opening.specs.declared.opening.PairOpening.{PairOpening}
 use Rattle.opening.specs.declared.opening.PairOpening.the-variants as pair
 use Rattle.opening.specs.Opening.{number}
 use Rattle.storage.specs.Storage.{storeRefusal, storedNumbers, storedMarks}
-use Rattle.saddlekerf.specs.Answer.{answer, refusalAnswer}
+use Rattle.lent_requests.specs.Answer.{answer}
+use Rattle.saddlekerf.specs.Answer.{refusalAnswer}
 
 -- ── printed: the bytes written, or 17 ──
 

@@ -13,7 +13,8 @@ use Rattle.tle_writer.specs.Write.{numberOf, writingOf, writtenOver}
 use Rattle.record_numbers.specs.Numbers.{numbersOf}
 use Rattle.record_numbers.specs.declared.Given.{Given}
 use Rattle.record_numbers.specs.declared.Given.the-variants.{Fields, NoClass, TooShort}
-use Rattle.saddlekerf.specs.Answer.{answer, refusalAnswer}
+use Rattle.lent_requests.specs.Answer.{answer}
+use Rattle.saddlekerf.specs.Answer.{refusalAnswer}
 
 -- ── stored: 1 to 6 with their values, then 17; a refused call writes nothing ──
 

@@ -1,6 +1,6 @@
 use native.Mathlib.Omega.{arith}
 use borrow.Author.Needs.{needs}
-use Rattle.saddlekerf.specs.Answer.{answer}
+use Rattle.lent_requests.specs.Answer.{answer}
 use Rattle.saddlekerf.proofs.opening_answer.Statement.{statement}
 use Rattle.saddlekerf.proofs.opening_answer.Tie as tie
 

@@ -1,7 +1,8 @@
 use mathlib.Core.Path.{sym, ap, _∙_, subst}
 use native.Mathlib.Omega.{arith}
 use borrow.Author.Needs.{needs}
-use Rattle.saddlekerf.specs.Answer.{answer, refusalAnswer, ColumnFits}
+use Rattle.lent_requests.specs.Answer.{answer}
+use Rattle.saddlekerf.specs.Answer.{refusalAnswer, ColumnFits}
 use Rattle.saddlekerf.proofs.refusal_answer.Statement.{statement}
 use Rattle.saddlekerf.proofs.refusal_answer.Tie as tie
 

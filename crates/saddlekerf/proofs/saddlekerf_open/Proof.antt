@@ -2,7 +2,7 @@ use denote.Ref.{now}
 use lib.ListN.{length}
 use mathlib.Core.Path.{sym, ap, _∙_}
 use borrow.Author.Needs.{needs}
-use Rattle.saddlekerf.specs.Answer.{answer}
+use Rattle.lent_requests.specs.Answer.{answer}
 use Rattle.saddlekerf.specs.Pairs.{openAnswer, openNumbers, openMarks}
 use Rattle.saddlekerf.proofs.Columns.{unread-fits}
 use Rattle.saddlekerf.proofs.saddlekerf_open.Statement.{statement}

@@ -2,7 +2,7 @@ use mathlib.Core.Path.{sym, ap, _∙_}
 use native.Mathlib.Omega.{arith}
 use borrow.Author.Needs.{needs}
 use Rattle.saddlekerf.specs.Pairs.{printedAnswer}
-use Rattle.saddlekerf.proofs.Loads.{written-fits}
+use Rattle.saddlekerf.proofs.Printed.{written-fits}
 use Rattle.saddlekerf.proofs.saddlekerf_print.Statement.{statement}
 use Rattle.saddlekerf.proofs.saddlekerf_print.Tie as tie
 

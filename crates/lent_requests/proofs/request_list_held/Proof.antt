@@ -1,10 +1,10 @@
 use denote.Ref.{now}
 use mathlib.Core.Path.{sym, _∙_}
 use borrow.Author.Needs.{needs}
-use Rattle.saddlekerf.proofs.Loads.{loaded, unloaded}
-use Rattle.saddlekerf.proofs.Posts.{too-long, list-memory-short, list-full}
-use Rattle.saddlekerf.proofs.saddlekerf_request_list.Statement.{statement}
-use Rattle.saddlekerf.proofs.saddlekerf_request_list.Tie as tie
+use Rattle.lent_requests.proofs.Loads.{loaded, unloaded}
+use Rattle.lent_requests.proofs.Posts.{too-long, list-memory-short, list-full}
+use Rattle.lent_requests.proofs.request_list_held.Statement.{statement}
+use Rattle.lent_requests.proofs.request_list_held.Tie as tie
 
 returns : tie.Need-returns
 returns c =
@@ -33,8 +33,8 @@ returns-3 c =
     list-memory-short (now (a .numbers)) (now (a .marks)) (now (a .times)) (now (a .refusals)) (now (a .states)) (now (a .rounds)) (i .if1 .left)
     (unloaded (now (a .numbers)) (now (a .marks)) (sym (l .load .ensures) ∙ w .enum-told .given .1)) _ (c .answer2 .ensures)
 
-pub saddlekerf-request-list-spec : {M : Type 1} → statement M
-saddlekerf-request-list-spec =
+pub request-list-held-spec : {M : Type 1} → statement M
+request-list-held-spec =
     tie.close
     (tie.spec
     (λ c κs. search needs) returns (λ c κs. search needs) (λ c. search needs) (λ c κs. search needs) (λ c κs. search needs) (λ c. search needs)

@@ -1,8 +1,8 @@
 use borrow.Author.Needs.{needs}
 use mathlib.Core.Path.{refl}
-use Rattle.saddlekerf.specs.Answer.{answer}
-use Rattle.saddlekerf.proofs.answer.Statement.{statement}
-use Rattle.saddlekerf.proofs.answer.Tie as tie
+use Rattle.lent_requests.specs.Answer.{answer}
+use Rattle.lent_requests.proofs.answer.Statement.{statement}
+use Rattle.lent_requests.proofs.answer.Tie as tie
 
 pub answer-spec : {M : Type 1} → statement M
 unfolding answer

@@ -1,9 +1,9 @@
 use native.Mathlib.Omega.{arith}
 use lib.ListN.{length-set}
 use borrow.Author.Needs.{needs}
-use Rattle.saddlekerf.proofs.Rooms.{row-put, row-kept}
-use Rattle.saddlekerf.proofs.put_row.Statement.{statement}
-use Rattle.saddlekerf.proofs.put_row.Tie as tie
+use Rattle.lent_requests.proofs.Rooms.{row-put, row-kept}
+use Rattle.lent_requests.proofs.put_row.Statement.{statement}
+use Rattle.lent_requests.proofs.put_row.Tie as tie
 
 pub put-row-spec : {M : Type 1} → statement M
 put-row-spec =

@@ -1,6 +1,6 @@
 use borrow.Author.Needs.{needs}
-use Rattle.saddlekerf.proofs.put_answer.Statement.{statement}
-use Rattle.saddlekerf.proofs.put_answer.Tie as tie
+use Rattle.lent_requests.proofs.put_answer.Statement.{statement}
+use Rattle.lent_requests.proofs.put_answer.Tie as tie
 
 returns : tie.Need-returns
 returns c =

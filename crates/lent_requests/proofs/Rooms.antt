@@ -9,7 +9,7 @@ use lib.Ieee.{Float}
 use borrow.Author.Tests.{eq-eqb, ne-eqb}
 use Rattle.sgp4.specs.declared.Row.{Row}
 use Rattle.requests.specs.Lists.{stateOf, over}
-use Rattle.saddlekerf.specs.Requests.{rowPut}
+use Rattle.lent_requests.specs.Requests.{rowPut}
 
 absurd : {B : Type 0} → ⊥ → B
 absurd = elim [ ]

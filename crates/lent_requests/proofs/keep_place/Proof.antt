@@ -1,7 +1,7 @@
 use borrow.Author.Needs.{needs}
-use Rattle.saddlekerf.proofs.Posts.{nine, not-nine}
-use Rattle.saddlekerf.proofs.keep_place.Statement.{statement}
-use Rattle.saddlekerf.proofs.keep_place.Tie as tie
+use Rattle.lent_requests.proofs.Posts.{nine, not-nine}
+use Rattle.lent_requests.proofs.keep_place.Statement.{statement}
+use Rattle.lent_requests.proofs.keep_place.Tie as tie
 
 returns : tie.Need-returns
 returns c = nine _ _ _ _ (c .if1 .taken)

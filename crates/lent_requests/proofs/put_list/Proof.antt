@@ -1,7 +1,7 @@
 use borrow.Author.Needs.{needs}
-use Rattle.saddlekerf.proofs.Posts.{not-saved, saved}
-use Rattle.saddlekerf.proofs.put_list.Statement.{statement}
-use Rattle.saddlekerf.proofs.put_list.Tie as tie
+use Rattle.lent_requests.proofs.Posts.{not-saved, saved}
+use Rattle.lent_requests.proofs.put_list.Statement.{statement}
+use Rattle.lent_requests.proofs.put_list.Tie as tie
 
 returns : tie.Need-returns
 returns c = (c .answer .ensures, not-saved _ _ _ _ (c .before .if1 .taken))
