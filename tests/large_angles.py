@@ -6,7 +6,7 @@ an argument is a fraction, its remainder by two pi is exact, and each later f64
 operation is the exact result rounded once.
 
 A line is `sin` or `cos`, the argument and the result, as bit patterns of f64 in
-hexadecimal, as in the published vectors. crates/elementary_vectors/stdin has
+hexadecimal, as in the published vectors. crates/test_elementary/stdin has
 these lines after the published ones.
 """
 

@@ -1,5 +1,5 @@
 #!/usr/bin/env python3
-"""Writes stdin and stdout of the crates published_rows and replay from bench/vectors/published-rows.txt.
+"""Writes stdin and stdout of the crates test_rows and replay from bench/vectors/published-rows.txt.
 
     published_rows.py [FOLDER]
 
@@ -88,7 +88,7 @@ def write(folder, asked, answered, last=""):
 def main():
     target = Path(sys.argv[1]) if len(sys.argv) > 1 else ROOT
     found = pairs((ROOT / "bench/vectors/published-rows.txt").read_text())
-    write(target / "crates/published_rows", *published(found), "\n")
+    write(target / "crates/test_rows", *published(found), "\n")
     write(target / "crates/replay", *replayed(found))
 
 

@@ -152,7 +152,7 @@ fn large_angles() {
     }
     // The crate's input is the published vectors and then these.
     let port = Path::new(env!("CARGO_MANIFEST_DIR"));
-    let stored = std::fs::read_to_string(port.join("../crates/elementary_vectors/stdin")).unwrap();
+    let stored = std::fs::read_to_string(port.join("../crates/test_elementary/stdin")).unwrap();
     let published = std::fs::read_to_string(port.join("vectors/elementary.txt")).unwrap();
     assert_eq!(stored, published + &text);
 }

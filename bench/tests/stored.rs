@@ -22,9 +22,9 @@ fn output(command: &mut Command) -> Vec<u8> {
 }
 
 #[test]
-fn instant_cases() {
+fn test_instants() {
     let made = output(Command::new("python3").arg(root().join("tests/instant_cases.py")));
-    assert!(made == stored("crates/instant_cases/stdin"));
+    assert!(made == stored("crates/test_instants/stdin"));
 }
 
 /// A script that writes what a program is run on and what it must print, held
@@ -46,7 +46,7 @@ fn published_rows_and_replay() {
     let folder = std::env::temp_dir().join(format!("published-rows-{}", std::process::id()));
     fs::create_dir_all(&folder).unwrap();
     output(Command::new("python3").arg(root().join("tests/published_rows.py")).arg(&folder));
-    for crate_folder in ["crates/published_rows", "crates/replay"] {
+    for crate_folder in ["crates/test_rows", "crates/replay"] {
         for file in ["stdin", "stdout"] {
             let path = format!("{crate_folder}/{file}");
             assert!(fs::read(folder.join(&path)).unwrap() == stored(&path), "{path}");
@@ -64,8 +64,8 @@ fn print_pair() {
 }
 
 #[test]
-fn read_pairs() {
-    written("tests/tle_pairs.py", "crates/read_pairs");
+fn test_reading() {
+    written("tests/tle_pairs.py", "crates/test_reading");
 }
 
 #[test]
@@ -74,12 +74,12 @@ fn written_lines() {
 }
 
 #[test]
-fn print_cases() {
-    written("tests/print_cases.py", "crates/print_cases");
+fn test_listing() {
+    written("tests/print_cases.py", "crates/test_listing");
 }
 
 #[test]
-fn opened_numbers() {
+fn test_opening() {
     let set = stored("bench/vectors/SGP4-VER.TLE");
     let mut input = Vec::new();
     for line in set.split(|&byte| byte == b'\n') {
@@ -88,12 +88,12 @@ fn opened_numbers() {
             input.push(b'\n');
         }
     }
-    assert!(input == stored("crates/opened_numbers/stdin"));
+    assert!(input == stored("crates/test_opening/stdin"));
     let made = output(&mut Command::new(env!("CARGO_BIN_EXE_open_numbers")));
-    assert!(made == stored("crates/opened_numbers/stdout"));
+    assert!(made == stored("crates/test_opening/stdout"));
 }
 
-/// The published positions: what crates/verification prints, by the port.
+/// The published positions: what crates/test_positions prints, by the port.
 #[derive(Default)]
 struct Verification {
     first: String,
@@ -193,13 +193,13 @@ impl Verification {
 }
 
 #[test]
-fn verification() {
+fn test_positions() {
     let made = output(Command::new("python3").arg("tests/verification.py").current_dir(root()));
-    assert!(made == stored("crates/verification/stdin"));
+    assert!(made == stored("crates/test_positions/stdin"));
     let mut run = Verification::default();
     for line in String::from_utf8(made).unwrap().lines() {
         run.line(line);
     }
     run.end_satellite();
-    assert_eq!(run.printed, String::from_utf8(stored("crates/verification/stdout")).unwrap());
+    assert_eq!(run.printed, String::from_utf8(stored("crates/test_positions/stdout")).unwrap());
 }

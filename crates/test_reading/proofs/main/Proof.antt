@@ -1,0 +1,16 @@
+use borrow.Author.Needs.{needs}
+use Rattle.test_reading.proofs.main.Statement.{statement}
+use Rattle.test_reading.proofs.main.Tie as tie
+
+abbrev Inv-loop : tie.InvT-loop
+Inv-loop failed₀ lines₀ turns₀ failed lines turns = Unit
+
+abbrev μ-loop : tie.MeasureT-loop
+μ-loop failed₀ lines₀ turns₀ failed lines turns = turns
+
+pub main-spec : {M : Type 1} → statement M
+main-spec =
+    tie.close
+    (tie.spec
+    Inv-loop μ-loop (λ c κs. search needs) (λ c. search needs) (λ c κs. search needs) (λ c. search needs) (λ c. search needs) (λ c. search needs)
+    (λ c. search needs) (λ c. search needs))
