@@ -24,12 +24,12 @@ use Rattle.sgp4.specs.declared.Row.{Row}
 use Rattle.sgp4.specs.Sgp4.{integratorOf}
 use Rattle.requests.specs.Request.{answered}
 use Rattle.requests.specs.Lists.{satelliteFrom, listRefusal, listTimes, rowsFrom, refusalsOf, statesOf, roundsOf, over}
-use Rattle.requests.specs.Demand3 as D
-use Rattle.requests.proofs.Nine.{nine-or-not}
-use Rattle.requests.proofs.Demand3.{demand-3}
+use Rattle.sequences.specs.Demand3 as D
+use Rattle.sequences.proofs.Nine.{nine-or-not}
+use Rattle.sequences.proofs.Demand3.{demand-3}
 use Rattle.storage.specs.Storage.{tooShort, satelliteOf, placeNumbers, placeMarks, storeRefusal, storedNumbers, storedMarks, placedNumbers, placedMarks}
-use Rattle.storage.proofs.Rooms.{enough, length-numbers, length-marks}
-use Rattle.storage.proofs.Kept.{kept, placed}
+use Rattle.storing.proofs.Rooms.{enough, length-numbers, length-marks}
+use Rattle.storing.proofs.Kept.{kept, placed}
 use Rattle.lent_requests.specs.Answer.{answer}
 use Rattle.saddlekerf.specs.Answer.{refusalAnswer}
 use Rattle.saddlekerf.specs.Pairs.{openAnswer, openNumbers, openMarks}

@@ -15,7 +15,7 @@ use Rattle.resonance.specs.declared.place.Side.{Side}
 use Rattle.resonance.specs.Time.{wholeStrides}
 use Rattle.sgp4.specs.Sgp4.{integratorOf}
 use Rattle.requests.specs.Lists.{listRefusal, listTimes, refusalsOf, statesOf, roundsOf, over}
-use Rattle.requests.specs.Demand3 as D
+use Rattle.sequences.specs.Demand3 as D
 use Rattle.storage.specs.Storage.{satelliteOf}
 use Rattle.lent_requests.specs.Answer.{answer}
 use Rattle.saddlekerf.specs.Pairs.{openAnswer, openNumbers, openMarks}

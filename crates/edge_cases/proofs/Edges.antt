@@ -3,8 +3,9 @@ use mathlib.Core.Path.{_≡_, refl}
 use mathlib.Core.Bool.{true}
 use mathlib.Core.List.{List, [], _∷_, _++_, map}
 use Rattle.instant.specs.Calendar.{daysIn, daysBefore, epochMicros, lastDay, dayInRange}
-use Rattle.tle.specs.Layout.{agreed}
-use Rattle.tle.specs.Number.{digitOf, valueOn, sum}
+use Rattle.columns.specs.Layout.{agreed}
+use Rattle.columns.specs.Sum.{digitOf, sum}
+use Rattle.tle.specs.Number.{valueOn}
 use Rattle.tle.specs.Refusals.{valuesOf}
 use Rattle.tle.specs.Read.{verdictOf, numberAt, pairOf, yearOf, dayAt, motionAt, degreesAt, fieldsOf, formOf, rangesOf, readOf}
 use Rattle.tle.specs.declared.Record.{Record}
@@ -13,8 +14,8 @@ use Rattle.opening.specs.declared.opening.Satellite.{Satellite}
 use Rattle.opening.specs.declared.opening.Opening.the-variants.{Opened}
 use Rattle.opening.specs.Opening.{openOf}
 use Rattle.sgp4.specs.Sgp4.{integratorOf}
-use Rattle.requests.specs.Edges as E
-use Rattle.requests.proofs.Edges as R
+use Rattle.sequences.specs.Edges as E
+use Rattle.sequences.proofs.Edges as R
 use Rattle.edge_cases.specs.Cases.{Case, strides, outcome, Claim, Every, lines, edges}
 
 lines-hold : Every Claim lines

@@ -7,7 +7,7 @@ use lib.ListN.{take}
 use Rattle.instant.specs.Calendar.{dayMicros, epochMicros}
 use Rattle.text.specs.Output.{bytes}
 use Rattle.tle.specs.Examples.{line1, line2}
-use Rattle.tle.specs.Number.{sum}
+use Rattle.columns.specs.Sum.{sum}
 use Rattle.tle.specs.Refusals.{numberOf, valuesOf, Values, line, line-column, field}
 use Rattle.tle.specs.Read.{checksumOf, fieldsOf, readOf}
 use Rattle.tle.specs.declared.Field.the-variants.{Day, Inclination, Node}
@@ -19,8 +19,8 @@ use Rattle.opening.specs.declared.opening.Satellite.{Satellite}
 use Rattle.opening.specs.declared.opening.Opening.the-variants.{Opened}
 use Rattle.opening.specs.Opening.{openOf}
 use Rattle.sgp4.specs.Sgp4.{integratorOf}
-use Rattle.requests.specs.Demand3.{One, reported}
-use Rattle.requests.specs.Edges as E
+use Rattle.sequences.specs.Demand3.{One, reported}
+use Rattle.sequences.specs.Edges as E
 
 pub record Pair : Type 0 where
   pub line1 : List ℕ

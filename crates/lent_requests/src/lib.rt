@@ -14,7 +14,7 @@ use resonance::place::Place;
 use sgp4::Row;
 use storage::Loading;
 use storage::load;
-use storage::store_place;
+use storing::store_place;
 
 // The parts of an answer, put together.
 pub fn answer(refusal: u8, detail: u8, place: u16, count: u32) -> u64

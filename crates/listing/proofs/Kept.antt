@@ -10,7 +10,7 @@ use lib.Seq.{take-all}
 use borrow.Author.Tests.{leb-true, leb-false, ne-eqb}
 use Rattle.text.specs.Input.{line1, line2, kept, started, fed}
 use Rattle.text.proofs.Whole.{whole}
-use Rattle.tle.specs.Layout.{layout1, layout2}
+use Rattle.columns.specs.Layout.{layout1, layout2}
 use Rattle.tle.specs.Read.{verdictOf, then, pairOf, fieldsOf, formed, formOf, ranged, readOf}
 use Rattle.tle.specs.declared.Line.{Line}
 use Rattle.tle.specs.declared.Line.the-variants.{One, Two}

@@ -6,9 +6,10 @@ use Prim.Native.String.{String}
 use Rattle.text.specs.Output.{bytes, spell, signed, glyph, places, line}
 use Rattle.text.specs.Input.{lineOf, restOf}
 use Rattle.instant.specs.Calendar.{lastDay, dayInRange}
-use Rattle.tle.specs.Layout.{agreed}
+use Rattle.columns.specs.Layout.{agreed}
 use Rattle.tle.specs.Number as tle-number
-use Rattle.tle.specs.Number.{digitOf, valueOn, sum, minus}
+use Rattle.columns.specs.Sum.{digitOf, sum}
+use Rattle.tle.specs.Number.{valueOn, minus}
 use Rattle.tle.specs.Read.{verdictOf, numberAt, pairOf, classOf, letter, designatorAt, yearOf, ndotAt, scaledAt, dayAt, motionAt, degreesAt, fieldsOf, formOf, rangesOf, readOf}
 use Rattle.tle.specs.declared.Designator.the-variants.{Blank, Piece}
 use Rattle.tle.specs.declared.Field.the-variants.{Day}

@@ -9,7 +9,7 @@ use lib.Dec.{eqb, ltb}
 use lib.IntN.{ℤ, pos, negsuc}
 use lib.ListN.{length, take, drop, getD}
 use lib.Seq.{drop-cons}
-use Rattle.tle.specs.Layout.{isLetter, isBlank}
+use Rattle.columns.specs.Layout.{isLetter, isBlank}
 use Rattle.tle.specs.Legal.{legal, designatorFits}
 use Rattle.tle.specs.Read.{classOf}
 use Rattle.tle.specs.declared.Class.{Class}

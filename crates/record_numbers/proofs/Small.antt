@@ -6,7 +6,7 @@ use native.Mathlib.Omega.{arith}
 use borrow.Author.Tests.{ltb-true, leb-true, eqb-true}
 use lib.Dec.{eqb, leb, ltb}
 use lib.IntN.{natAbs}
-use Rattle.tle.specs.Layout.{isLetter, isBlank}
+use Rattle.columns.specs.Layout.{isLetter, isBlank}
 use Rattle.tle.specs.Legal.{legal, designatorFits, scaledFits}
 use Rattle.tle.specs.declared.Class.{Class}
 use Rattle.tle.specs.declared.Class.the-variants.{Unclassified, Classified, Secret}

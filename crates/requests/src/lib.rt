@@ -1,5 +1,5 @@
 // Requests for position and velocity: one time, or a list of times, put to any satellite. Of the
-// satellite only the saved position changes. specs/Demand3 has the claim about whole sequences.
+// satellite only the saved position changes. Crate sequences has the claim about whole sequences.
 ghost use mathlib.Core.Path.{_≡_};
 ghost use Prim.Native.Nat.{_+_, _*_, _≤_, _<_};
 ghost use lib.ListN.{length, set};

@@ -8,8 +8,8 @@ use borrow.Author.Tests.{eqb-true, eqb-false}
 use lib.Dec.{eqb, ltb}
 use lib.ListN.{length, getD}
 use Rattle.instant.specs.Calendar.{dayInRange}
-use Rattle.tle.specs.Layout.{fits, agreed, isBlank, layout1, layout2}
-use Rattle.tle.specs.Number.{digitOf}
+use Rattle.columns.specs.Layout.{fits, agreed, isBlank, layout1, layout2}
+use Rattle.columns.specs.Sum.{digitOf}
 use Rattle.tle.specs.Legal.{inclinationInRange, angleInRange, motionInRange}
 use Rattle.tle.specs.Read.{unless, then, checksumOf, verdictOf, numberAt, pairOf, fieldsOf, formed, formOf, rangesOf, ranged, readOf}
 use Rattle.tle.specs.declared.Record.{Record}

@@ -27,7 +27,7 @@ use opening::opening::open_pair;
 use record_numbers::Given;
 use record_numbers::record_of;
 use record_numbers::store_record;
-use storage::store;
+use storing::store;
 use tle::Field;
 use tle::Line;
 use tle::Reading;

@@ -17,11 +17,12 @@ use Rattle.opening.specs.declared.opening.PairOpening.the-variants as pair
 use Rattle.opening.specs.Opening.{openPairOf}
 use Rattle.opening.proofs.Made.{made-of}
 use Rattle.requests.specs.Lists.{refusalsOf, statesOf, roundsOf, over}
-use Rattle.requests.specs.Demand3.{Request, Outcome, outcome, rowTimes, run, times, sum, reported, ranged, rowAlone, stridesAlone, NoMore, Demand3}
-use Rattle.requests.proofs.Demand3.{demand-3}
+use Rattle.sequences.specs.Demand3.{Request, Outcome, outcome, rowTimes, run, times, sum, reported, ranged, rowAlone, stridesAlone, NoMore, Demand3}
+use Rattle.sequences.proofs.Demand3.{demand-3}
 use Rattle.script.specs.declared.Ran.{Ran}
 use Rattle.script.specs.declared.Ran.the-variants.{Done, Short, Unread, Refused}
-use Rattle.script.specs.Script.{needed, script, roomy, roomFor, rowsOf, Left, Demanded, ranOf, Post}
+use Rattle.script_room.specs.Room.{needed, roomy, roomFor}
+use Rattle.script.specs.Script.{script, rowsOf, Left, Demanded, ranOf, Post}
 
 absurd : {B : Type 0} → ⊥ → B
 absurd = elim [ ]

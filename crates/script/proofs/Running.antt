@@ -13,10 +13,12 @@ use lib.Ieee.{Float}
 use Rattle.sgp4.specs.declared.Row.{Row}
 use Rattle.opening.specs.declared.opening.Satellite.{Satellite}
 use Rattle.requests.specs.Lists.{listRefusal, listTimes, stateOf, statesOf, refusalsOf, roundsOf, over}
-use Rattle.requests.specs.Demand3.{Request, One, Many, Outcome, outcome, rowTimes, run, reported}
+use Rattle.sequences.specs.Demand3.{Request, One, Many, Outcome, outcome, rowTimes, run, reported}
 use Rattle.requests.proofs.Filling.{length-rows, length-refusals, length-rounds, length-states, over-set, length-over}
-use Rattle.script.specs.Script.{taken, needed, requestOf, script, roomy, due, rowsOf, Step, Left}
-use Rattle.script.proofs.Rooms.{next-roomy, rows-bound}
+use Rattle.script_room.specs.Room.{taken, needed, roomy, due}
+use Rattle.script.specs.Script.{requestOf, script, rowsOf, Step, Left}
+use Rattle.script_room.proofs.Room.{next-roomy}
+use Rattle.script.proofs.Rooms.{rows-bound}
 
 -- ── the next request ──
 

@@ -1,10 +1,9 @@
--- A whole script of requests run from two lines, and what demand 3 says of the memory that it leaves: specs/Demand3 of `requests`, of running code. Definitions only.
-use Prim.Native.Nat.{ℕ, zero, suc, _+_, _-_, _*_, _/_}
+-- A whole script of requests run from two lines, and what demand 3 says of the memory that it leaves: specs/Demand3 of `sequences`, of running code. Definitions only.
+use Prim.Native.Nat.{ℕ, zero, suc, _-_, _*_}
 use mathlib.Core.Path.{_≡_}
-use mathlib.Core.Bool.{Bool, true, false, _&&_}
+use mathlib.Core.Bool.{Bool, true, false}
 use mathlib.Core.List.{List, [], _∷_, _++_, map}
 use lib.ListN.{length, take, drop, getD}
-use lib.Dec.{leb, ltb}
 use lib.IntN.{ℤ, pos}
 use lib.Ieee.{Float}
 use Rattle.resonance.specs.declared.place.Side.{Side}
@@ -15,22 +14,14 @@ use Rattle.opening.specs.declared.opening.PairOpening.{PairOpening}
 use Rattle.opening.specs.declared.opening.PairOpening.the-variants as pair
 use Rattle.tle.specs.Refusals.{Values, nothing, numberOf, valuesOf}
 use Rattle.opening.specs.Opening.{number, openPairOf, pairNumber, pairValues}
+use Rattle.script_room.specs.Room.{taken, roomFor}
 use Rattle.script.specs.declared.Ran.{Ran}
 use Rattle.script.specs.declared.Ran.the-variants.{Done, Short, Unread, Refused}
 use Rattle.requests.specs.Lists.{refusalsOf, statesOf, roundsOf, over}
 use Rattle.sgp4.specs.declared.Row.{Row}
-use Rattle.requests.specs.Demand3.{Request, One, Many, Outcome, outcome, rowTimes, run, times, sum, reported, none, counted, ranged, Outward, farthest, rowAlone, stridesAlone, NoMore}
+use Rattle.sequences.specs.Demand3.{Request, One, Many, Outcome, outcome, rowTimes, run, times, sum, reported, none, counted, ranged, Outward, farthest, rowAlone, stridesAlone, NoMore}
 
 -- ── the script ──
-
--- a request is 0, one time, or n + 1, a list of n times; this many times it takes
-unfoldable pub taken : ℕ → ℕ
-taken zero = 1
-taken (suc n) = n
-
-unfoldable pub needed : List ℕ → ℕ
-needed [] = 0
-needed (n ∷ ns) = taken n + needed ns
 
 -- of the times that are left, and of rooms with a, b and c elements left
 abbrev pub requestOf : ℕ → List ℤ → ℕ → ℕ → ℕ → Request
@@ -44,22 +35,6 @@ script (n ∷ ns) ts a b c =
     let r = requestOf n ts a b c in
     let k = length (rowTimes r) in
     r ∷ script ns (drop (taken n) ts) (a - k) (b - 6 * k) (c - k)
-
--- whether a room of so many rows has one for each single request, where every list before it fills its own; a list for which
--- too few are left is refused with 17, and the script goes on
-unfoldable pub roomy : List ℕ → ℕ → Bool
-roomy [] room = true
-roomy (zero ∷ ns) room = ltb 0 room && roomy ns (room - 1)
-roomy (suc n ∷ ns) room = roomy ns (room - n)
-
--- whether the times suffice, and the rooms for the row of each single request and for the strides of each request
-unfoldable pub roomFor : List ℕ → ℕ → ℕ → ℕ → ℕ → ℕ → Bool
-roomFor ns t a b c d = leb (needed ns) t && roomy ns a && roomy ns (b / 6) && roomy ns c && leb (length ns) d
-
--- the rows that a request must have room for
-abbrev pub due : ℕ → ℕ
-due zero = 1
-due (suc n) = 0
 
 -- ── what is left in memory ──
 

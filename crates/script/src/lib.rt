@@ -5,9 +5,9 @@ ghost use mathlib.Core.Bool.{true};
 ghost use mathlib.Core.List.{_++_};
 ghost use lib.ListN.{length, take, drop, set};
 ghost use lib.Seq.{sets};
-ghost use lib.Dec.{leb};
 ghost use Rattle.requests.specs.Lists as L;
-ghost use Rattle.requests.specs.Demand3 as D;
+ghost use Rattle.sequences.specs.Demand3 as D;
+ghost use Rattle.script_room.specs.Room as R;
 ghost use Rattle.script.specs.Script as S;
 use instant::Microseconds;
 use instant::Strides;
@@ -16,6 +16,8 @@ use opening::opening::Satellite;
 use opening::opening::open_pair;
 use requests::request;
 use requests::request_list;
+use script_room::has_room;
+use script_room::taken;
 use sgp4::Row;
 
 // What became of a script: run; not begun, for want of times or of room (17); or not begun, since the
@@ -45,60 +47,6 @@ struct Stepped {
     satellite: Satellite,
     strides: Strides,
     rows: usize,
-}
-
-// The times that a request takes.
-fn taken(n: usize) -> usize
-    ensures { λ r. ⌜ r ≡ S.taken n ⌝ }
-{
-    if n == 0 {
-        return 1;
-    }
-    n - 1
-}
-
-// What is left of `room` after n, or nothing.
-fn less(room: usize, n: usize) -> usize
-    ensures { λ r. ⌜ r ≡ room - n ⌝ }
-{
-    if room < n {
-        return 0;
-    }
-    room - n
-}
-
-// Whether all requests together take at most `room` times.
-fn fits(lengths: &[usize], room: usize) -> bool
-    ensures { λ r. ⌜ r ≡ leb (S.needed (now (lengths .entry))) room ⌝ }
-{
-    let mut left = room;
-    let mut i = 0;
-    while i < lengths.len() {
-        let n = taken(lengths[i]);
-        if left < n {
-            return false;
-        }
-        left -= n;
-        i += 1;
-    }
-    true
-}
-
-// Whether a room of so many rows has one for each single request, where every list fills its own.
-fn roomy(lengths: &[usize], room: usize) -> bool
-    ensures { λ r. ⌜ r ≡ S.roomy (now (lengths .entry)) room ⌝ }
-{
-    let mut left = room;
-    let mut i = 0;
-    while i < lengths.len() {
-        let n = lengths[i];
-        if (n == 0) & (left == 0) {
-            return false;
-        }
-        left = less(left, taken(n));
-        i += 1;
-    }
-    true
 }
 
 // A row at an index of the three rooms.
@@ -197,10 +145,10 @@ fn step(
     states: &mut [f64],
     rounds: &mut [u8],
 ) -> Stepped
-    requires { ⌜ at + S.taken n ≤ length (now times) ⌝ }
-    requires { ⌜ rows + S.due n ≤ length (now refusals) ⌝ }
-    requires { ⌜ 6 * (rows + S.due n) ≤ length (now states) ⌝ }
-    requires { ⌜ rows + S.due n ≤ length (now rounds) ⌝ }
+    requires { ⌜ at + R.taken n ≤ length (now times) ⌝ }
+    requires { ⌜ rows + R.due n ≤ length (now refusals) ⌝ }
+    requires { ⌜ 6 * (rows + R.due n) ≤ length (now states) ⌝ }
+    requires { ⌜ rows + R.due n ≤ length (now rounds) ⌝ }
     ensures { λ r. ⌜ S.Step s (S.requestOf n (drop at (now (times .entry))) (length (now (refusals .entry)) - rows) (length (now (states .entry)) - 6 * rows) (length (now (rounds .entry)) - rows)) rows (now (refusals .entry)) (now (states .entry)) (now (rounds .entry)) (r .satellite) (r .strides .0) (r .rows) (now (refusals .exit)) (now (states .exit)) (now (rounds .exit)) ⌝ }
 {
     if n == 0 {
@@ -221,10 +169,10 @@ fn run_all(
     rounds: &mut [u8],
     strides: &mut [u32],
 )
-    requires { ⌜ S.needed (now lengths) ≤ length (now times) ⌝ }
-    requires { ⌜ S.roomy (now lengths) (length (now refusals)) ≡ true ⌝ }
-    requires { ⌜ S.roomy (now lengths) (length (now states) / 6) ≡ true ⌝ }
-    requires { ⌜ S.roomy (now lengths) (length (now rounds)) ≡ true ⌝ }
+    requires { ⌜ R.needed (now lengths) ≤ length (now times) ⌝ }
+    requires { ⌜ R.roomy (now lengths) (length (now refusals)) ≡ true ⌝ }
+    requires { ⌜ R.roomy (now lengths) (length (now states) / 6) ≡ true ⌝ }
+    requires { ⌜ R.roomy (now lengths) (length (now rounds)) ≡ true ⌝ }
     requires { ⌜ length (now lengths) ≤ length (now strides) ⌝ }
     ensures { λ _. ⌜ S.Left first (S.script (now (lengths .entry)) (now (times .entry)) (length (now (refusals .entry))) (length (now (states .entry))) (length (now (rounds .entry)))) (now (refusals .entry)) (now (states .entry)) (now (rounds .entry)) (now (strides .entry)) (now (refusals .exit)) (now (states .exit)) (now (rounds .exit)) (now (strides .exit)) ⌝ }
 {
@@ -242,26 +190,6 @@ fn run_all(
         at += m;
         j += 1;
     }
-}
-
-// Whether the times suffice, and the rooms for the row of each single request and for the strides of
-// every request.
-fn has_room(lengths: &[usize], t: usize, a: usize, b: usize, c: usize, d: usize) -> bool
-    ensures { λ r. ⌜ r ≡ S.roomFor (now (lengths .entry)) t a b c d ⌝ }
-{
-    if !fits(lengths, t) {
-        return false;
-    }
-    if !roomy(lengths, a) {
-        return false;
-    }
-    if !roomy(lengths, b / 6) {
-        return false;
-    }
-    if !roomy(lengths, c) {
-        return false;
-    }
-    lengths.len() <= d
 }
 
 // Reads and opens two lines and puts the requests of a script to the satellite, each to what the

@@ -1,41 +1,67 @@
 // A request's line answered: a `row` line for each row, or `refused` and the number for a list refused
 // whole, and a `strides` line; `malformed` for a line that is no request.
 ghost use Prim.Native.Nat.{_≤_};
-use instant::Microseconds;
-use opening::opening::Satellite;
+use instant::Strides;
+use lent_requests::request_held;
+use lent_requests::request_list_held;
 use printing::print_answer;
 use printing::print_list;
 use printing::refuse_list;
 use request_line::Request;
 use request_line::read_request;
-use requests::request;
-use requests::request_list;
+use sgp4::Row;
 use streams::print;
 
-fn answer_one(failed: &mut bool, satellite: Satellite, time: i64) -> Satellite {
-    let a = request(satellite, Microseconds(time));
-    let row = a.row;
-    let strides = a.strides;
-    print_answer(failed, row, strides);
-    a.satellite
+// The parts of an answer's number, as specs/Answer of lent_requests puts them together.
+fn refusal_of(answer: u64) -> u8 {
+    (answer % 256) as u8
 }
 
-fn answer_list(failed: &mut bool, satellite: Satellite, times: &[i64]) -> Satellite {
+fn rounds_of(answer: u64) -> u8 {
+    (answer / 256 % 256) as u8
+}
+
+fn strides_of(answer: u64) -> Strides {
+    Strides((answer / 4294967296) as u32)
+}
+
+fn answer_one(failed: &mut bool, numbers: &mut [f64], marks: &mut [u32], time: i64) {
+    let mut state = [0f64; 6];
+    let answer = request_held(numbers, marks, time, &mut state);
+    let row = Row {
+        refusal: refusal_of(answer),
+        x: state[0],
+        y: state[1],
+        z: state[2],
+        vx: state[3],
+        vy: state[4],
+        vz: state[5],
+        rounds: rounds_of(answer),
+    };
+    print_answer(failed, row, strides_of(answer));
+}
+
+fn answer_list(failed: &mut bool, numbers: &mut [f64], marks: &mut [u32], times: &[i64]) {
     let mut refusals = [0u8; 1024];
     let mut states = [0f64; 6144];
     let mut rounds = [0u8; 1024];
-    let a = request_list(satellite, times, &mut refusals, &mut states, &mut rounds);
-    let strides = a.strides;
+    let answer = request_list_held(
+        numbers,
+        marks,
+        times,
+        &mut refusals,
+        &mut states,
+        &mut rounds,
+    );
     print_list(
         failed,
-        a.refusal,
-        strides,
+        refusal_of(answer),
+        strides_of(answer),
         times.len(),
         &refusals,
         &states,
         &rounds,
     );
-    a.satellite
 }
 
 // No list that is read is longer than the room for its times.
@@ -48,21 +74,15 @@ fn listed(n: usize) -> usize
     1100
 }
 
-pub(crate) fn answer(failed: &mut bool, satellite: Satellite, line: &[u8]) -> Satellite {
+pub(crate) fn answer(failed: &mut bool, numbers: &mut [f64], marks: &mut [u32], line: &[u8]) {
     let mut times = [0i64; 1100];
     match read_request(line, &mut times) {
-        Request::One => answer_one(failed, satellite, times[0]),
+        Request::One => answer_one(failed, numbers, marks, times[0]),
         Request::List(n) => {
             let n = listed(n);
-            answer_list(failed, satellite, &times[0..n])
+            answer_list(failed, numbers, marks, &times[0..n])
         }
-        Request::TooMany => {
-            refuse_list(failed);
-            satellite
-        }
-        Request::Malformed => {
-            print(failed, b"malformed\n");
-            satellite
-        }
+        Request::TooMany => refuse_list(failed),
+        Request::Malformed => print(failed, b"malformed\n"),
     }
 }

@@ -1,21 +1,15 @@
 // Opens the pairs of the published test set and prints numbers of each opened satellite, as bit
 // patterns, under the names and in the order of bench/src/bin/open_numbers.rs, the independent port
 // whose output is the expected one. The input has 140 bytes a pair: two lines of 69, each ended by a
-// newline.
+// newline. The numbers are read from the memory that the satellite is stored in: specs/Storage of crate
+// storage says where each lies.
 use instant::Angle;
 use instant::Epoch;
 use instant::Instant;
 use opening::opening::Opening;
+use opening::opening::Satellite;
 use opening::opening::open;
-use satellite::DeepSpace;
-use satellite::Drag;
-use satellite::HalfDay;
-use satellite::Method;
-use satellite::Model;
-use satellite::NearEarth;
-use satellite::OneDay;
-use satellite::Rates;
-use satellite::Resonance;
+use storing::store;
 use text::put_byte;
 use text::put_bytes;
 use text::put_decimal;
@@ -28,92 +22,87 @@ fn put(out: &mut [u8], at: usize, x: f64) -> usize {
     put_pattern(out, p, x)
 }
 
-fn put_drag(out: &mut [u8], at: usize, d: Drag) -> usize {
-    let p = put(out, at, d.cc1);
-    let p = put(out, p, d.cc4);
-    let p = put(out, p, d.cc5);
-    put(out, p, d.t2cof)
+fn put_place(out: &mut [u8], at: usize, numbers: &[f64], k: usize) -> usize {
+    if k < numbers.len() {
+        return put(out, at, numbers[k]);
+    }
+    at
 }
 
-fn put_rates(out: &mut [u8], at: usize, r: Rates) -> usize {
-    let p = put(out, at, r.mdot);
-    let p = put(out, p, r.argpdot);
-    put(out, p, r.nodedot)
+fn put_places(out: &mut [u8], at: usize, numbers: &[f64], places: &[usize]) -> usize {
+    let mut p = at;
+    let mut i = 0;
+    while i < places.len() {
+        p = put_place(out, p, numbers, places[i]);
+        i += 1;
+    }
+    p
 }
 
-fn put_near(out: &mut [u8], at: usize, n: NearEarth, gsto: f64) -> usize {
-    let drag = n.drag;
-    let rates = n.rates;
-    let p = put(out, at, n.elements.no);
-    let p = put(out, p, n.terms.con41);
-    let p = put_drag(out, p, drag);
-    let p = put_rates(out, p, rates);
-    let p = put(out, p, n.terms.xlcof);
-    let p = put(out, p, n.terms.aycof);
+// no, con41, cc1, cc4, cc5, t2cof, mdot, argpdot, nodedot, xlcof, aycof
+fn put_near(out: &mut [u8], at: usize, numbers: &[f64], gsto: f64) -> usize {
+    let places = [7usize, 28, 10, 11, 12, 15, 24, 25, 26, 31, 32];
+    let p = put_places(out, at, numbers, &places);
     put(out, p, gsto)
 }
 
-fn put_deep(out: &mut [u8], at: usize, d: DeepSpace) -> usize {
-    let p = put(out, at, d.periodics.zmol);
-    let p = put(out, p, d.periodics.zmos);
-    let p = put(out, p, d.periodics.sun.e2);
-    let p = put(out, p, d.periodics.moon.e2);
-    let p = put(out, p, d.rates.dedt);
-    put(out, p, d.rates.dmdt)
+// zmol, zmos, e2 of the Sun and of the Moon, dedt, dmdt
+fn put_deep(out: &mut [u8], at: usize, numbers: &[f64]) -> usize {
+    let places = [66usize, 65, 41, 53, 36, 38];
+    put_places(out, at, numbers, &places)
 }
 
-fn put_one_day(out: &mut [u8], at: usize, xlamo: f64, xfact: f64, r: OneDay) -> usize {
-    let p = put(out, at, xlamo);
-    let p = put(out, p, xfact);
-    let p = put(out, p, r.del1);
-    let p = put(out, p, r.del2);
-    put(out, p, r.del3)
+// xlamo, xfact, del1, del2, del3
+fn put_one_day(out: &mut [u8], at: usize, numbers: &[f64]) -> usize {
+    let places = [67usize, 68, 73, 74, 75];
+    put_places(out, at, numbers, &places)
 }
 
-fn put_half_day(out: &mut [u8], at: usize, xlamo: f64, xfact: f64, r: HalfDay) -> usize {
-    let p = put(out, at, xlamo);
-    let p = put(out, p, xfact);
-    let p = put(out, p, r.d2201);
-    let p = put(out, p, r.d2211);
-    let p = put(out, p, r.d3210);
-    put(out, p, r.d5433)
+// xlamo, xfact, d2201, d2211, d3210, d5433
+fn put_half_day(out: &mut [u8], at: usize, numbers: &[f64]) -> usize {
+    let places = [67usize, 68, 73, 74, 75, 82];
+    put_places(out, at, numbers, &places)
 }
 
-fn put_kind(out: &mut [u8], at: usize, kind: Resonance) -> usize {
-    match kind {
-        Resonance::None => put_bytes(out, at, b" deep"),
-        Resonance::OneDay(_) => put_bytes(out, at, b" one-day"),
-        Resonance::HalfDay(_) => put_bytes(out, at, b" half-day"),
+// 0 is near Earth, 1 deep space, 2 one-day resonance, any other number half-day resonance.
+fn put_kind(out: &mut [u8], at: usize, kind: u32) -> usize {
+    if kind == 0 {
+        return put_bytes(out, at, b" near");
     }
+    if kind == 1 {
+        return put_bytes(out, at, b" deep");
+    }
+    if kind == 2 {
+        return put_bytes(out, at, b" one-day");
+    }
+    put_bytes(out, at, b" half-day")
 }
 
-fn put_resonance(out: &mut [u8], at: usize, d: DeepSpace) -> usize {
-    let i = d.integrator;
-    let kind = i.resonance;
-    match kind {
-        Resonance::None => at,
-        Resonance::OneDay(r) => put_one_day(out, at, i.xlamo, i.xfact, r),
-        Resonance::HalfDay(r) => put_half_day(out, at, i.xlamo, i.xfact, r),
+fn put_resonance(out: &mut [u8], at: usize, numbers: &[f64], kind: u32) -> usize {
+    if kind == 1 {
+        return at;
     }
+    if kind == 2 {
+        return put_one_day(out, at, numbers);
+    }
+    put_half_day(out, at, numbers)
 }
 
-fn put_model(out: &mut [u8], at: usize, m: Model, gsto: f64) -> usize {
-    let near = m.near;
-    let method = m.method;
-    match method {
-        Method::NearEarth => {
-            let p = put_bytes(out, at, b" near");
-            put_near(out, p, near, gsto)
-        }
-        Method::DeepSpace(d) => {
-            let i = d.integrator;
-            let kind = i.resonance;
-            let p = put_kind(out, at, kind);
-            let p = put_near(out, p, near, gsto);
-            let p = put_deep(out, p, d);
-            put_resonance(out, p, d)
-        }
+fn put_stored(out: &mut [u8], at: usize, numbers: &[f64], kind: u32, gsto: f64) -> usize {
+    let p = put_kind(out, at, kind);
+    let p = put_near(out, p, numbers, gsto);
+    if kind == 0 {
+        return p;
     }
+    let p = put_deep(out, p, numbers);
+    put_resonance(out, p, numbers, kind)
+}
+
+fn put_satellite(out: &mut [u8], at: usize, satellite: Satellite, gsto: f64) -> usize {
+    let mut numbers = [0f64; 83];
+    let mut marks = [0u32; 4];
+    let _ = store(satellite, &mut numbers, &mut marks);
+    put_stored(out, at, &numbers, marks[3], gsto)
 }
 
 fn put_refused(out: &mut [u8], at: usize, number: u64) -> usize {
@@ -140,10 +129,7 @@ fn gsto_of(r: Record) -> f64 {
 fn put_opening(out: &mut [u8], at: usize, r: Record) -> usize {
     let o = open(r);
     match o {
-        Opening::Opened(s) => {
-            let m = s.model;
-            put_model(out, at, m, gsto_of(r))
-        }
+        Opening::Opened(s) => put_satellite(out, at, s, gsto_of(r)),
         Opening::Refused(why) => put_refused(out, at, why.number()),
     }
 }

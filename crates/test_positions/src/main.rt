@@ -14,24 +14,23 @@ use comparison::is_off;
 use comparison::micrometres;
 use comparison::put_tally;
 use comparison::put_timed;
-use instant::Microseconds;
+use lent_requests::request_held;
 use opening::opening::PairOpening;
-use opening::opening::Satellite;
 use opening::opening::open_pair;
 use printing::print_refused;
 use refusal_line::put_refusal;
 use request_line::Request;
 use request_line::read_request;
-use requests::request;
-use sgp4::Row;
+use storing::store;
 use streams::print;
 
 // What the lines so far came to: nothing, the first line of a pair (from where to where it stands), a
-// satellite, or a pair that was refused.
+// satellite, or a pair that was refused. The satellite lies in `numbers` and `marks`, as a caller in C
+// keeps it.
 enum Stage {
     Nothing,
     First(usize, usize),
-    Open(Satellite),
+    Open,
     Refused,
 }
 
@@ -74,9 +73,18 @@ fn print_unread(failed: &mut bool, refusal: tle::Refusal) {
     }
 }
 
-fn print_opening(failed: &mut bool, opening: PairOpening) -> Stage {
-    match opening {
-        PairOpening::Opened(satellite) => Stage::Open(satellite),
+fn open(
+    failed: &mut bool,
+    line1: &[u8],
+    line2: &[u8],
+    numbers: &mut [f64],
+    marks: &mut [u32],
+) -> Stage {
+    match open_pair(line1, line2) {
+        PairOpening::Opened(satellite) => {
+            let _ = store(satellite, numbers, marks);
+            Stage::Open
+        }
         PairOpening::Unread(why) => {
             print_unread(failed, why);
             Stage::Refused
@@ -86,10 +94,6 @@ fn print_opening(failed: &mut bool, opening: PairOpening) -> Stage {
             Stage::Refused
         }
     }
-}
-
-fn wide(n: u8) -> u64 {
-    n as u64
 }
 
 fn print_off(failed: &mut bool, time: i64, km: f64) {
@@ -105,13 +109,26 @@ fn print_off(failed: &mut bool, time: i64, km: f64) {
 }
 
 // A published row's time and position are the four numbers of its line.
-fn compare(failed: &mut bool, tally: Tally, row: Row, numbers: [i64; 4]) -> Tally {
-    if row.refusal > 0 {
-        print_timed(failed, b"at ", numbers[0], b" refused ", wide(row.refusal));
+fn compare(
+    failed: &mut bool,
+    tally: Tally,
+    refusal: u64,
+    state: [f64; 6],
+    published: [i64; 4],
+) -> Tally {
+    if refusal > 0 {
+        print_timed(failed, b"at ", published[0], b" refused ", refusal);
         return tally.with_refused();
     }
-    let km = difference(row.x, row.y, row.z, numbers[1], numbers[2], numbers[3]);
-    print_off(failed, numbers[0], km);
+    let km = difference(
+        state[0],
+        state[1],
+        state[2],
+        published[1],
+        published[2],
+        published[3],
+    );
+    print_off(failed, published[0], km);
     tally.with_compared(km)
 }
 
@@ -142,16 +159,23 @@ fn print_not_read(failed: &mut bool) {
 }
 
 // A row that is answered has the refusal number 0.
-fn judge(failed: &mut bool, asked: Asked, tally: Tally, row: Row, numbers: [i64; 4]) -> Tally {
+fn judge(
+    failed: &mut bool,
+    asked: Asked,
+    tally: Tally,
+    refusal: u64,
+    state: [f64; 6],
+    published: [i64; 4],
+) -> Tally {
     match asked {
-        Asked::Row => compare(failed, tally, row, numbers),
+        Asked::Row => compare(failed, tally, refusal, state, published),
         Asked::Stop => {
             print_timed(
                 failed,
                 b"published stop at ",
-                numbers[0],
+                published[0],
                 b" refused ",
-                wide(row.refusal),
+                refusal,
             );
             tally
         }
@@ -163,17 +187,19 @@ fn judge(failed: &mut bool, asked: Asked, tally: Tally, row: Row, numbers: [i64;
 }
 
 // A line that cannot be read asks a time too, and its row is passed over: no later row depends on it.
-fn ask(failed: &mut bool, satellite: Satellite, tally: Tally, line: &[u8]) -> Progress {
-    let mut numbers = [0i64; 4];
-    let asked = asked_by(read_request(line, &mut numbers));
-    let a = request(satellite, Microseconds(numbers[0]));
-    let row = a.row;
-    let satellite = a.satellite;
-    let tally = judge(failed, asked, tally, row, numbers);
-    Progress {
-        stage: Stage::Open(satellite),
-        tally,
-    }
+// The answer's last byte is the refusal's number.
+fn ask(
+    failed: &mut bool,
+    numbers: &mut [f64],
+    marks: &mut [u32],
+    tally: Tally,
+    line: &[u8],
+) -> Tally {
+    let mut published = [0i64; 4];
+    let asked = asked_by(read_request(line, &mut published));
+    let mut state = [0f64; 6];
+    let answer = request_held(numbers, marks, published[0], &mut state);
+    judge(failed, asked, tally, answer % 256, state, published)
 }
 
 // Every published row of a refused pair counts as refused.
@@ -199,11 +225,19 @@ fn at_most(n: usize, most: usize) -> usize
 }
 
 // The first line stands where it was found, within the input.
-fn second_line(failed: &mut bool, input: &[u8], from: usize, to: usize, line: &[u8]) -> Progress {
+fn second_line(
+    failed: &mut bool,
+    numbers: &mut [f64],
+    marks: &mut [u32],
+    input: &[u8],
+    from: usize,
+    to: usize,
+    line: &[u8],
+) -> Progress {
     let tally = Tally::start();
     let to = at_most(to, input.len());
     let from = at_most(from, to);
-    let stage = print_opening(failed, open_pair(&input[from..to], line));
+    let stage = open(failed, &input[from..to], line, numbers, marks);
     Progress { stage, tally }
 }
 
@@ -213,7 +247,7 @@ fn end_satellite(failed: &mut bool, progress: Progress) {
     match stage {
         Stage::Nothing => {},
         Stage::First(_, _) => print(failed, b"a pair has no second line\n"),
-        Stage::Open(_) => print_tally(failed, tally),
+        Stage::Open => print_tally(failed, tally),
         Stage::Refused => print_tally(failed, tally),
     }
 }
@@ -225,7 +259,14 @@ fn begins(line: &[u8], byte: u8) -> bool {
     line[0] == byte
 }
 
-fn within_satellite(failed: &mut bool, progress: Progress, input: &[u8], line: &[u8]) -> Progress {
+fn within_satellite(
+    failed: &mut bool,
+    numbers: &mut [f64],
+    marks: &mut [u32],
+    progress: Progress,
+    input: &[u8],
+    line: &[u8],
+) -> Progress {
     let stage = progress.stage;
     let tally = progress.tally;
     match stage {
@@ -233,14 +274,14 @@ fn within_satellite(failed: &mut bool, progress: Progress, input: &[u8], line: &
             print_not_read(failed);
             progress
         }
-        Stage::First(from, to) => second_line(failed, input, from, to, line),
-        Stage::Open(satellite) => ask(failed, satellite, tally, line),
+        Stage::First(from, to) => second_line(failed, numbers, marks, input, from, to, line),
+        Stage::Open => {
+            let tally = ask(failed, numbers, marks, tally, line);
+            Progress { stage, tally }
+        }
         Stage::Refused => {
             let tally = refused_with_pair(failed, tally, line);
-            Progress {
-                stage: Stage::Refused,
-                tally,
-            }
+            Progress { stage, tally }
         }
     }
 }
@@ -272,6 +313,8 @@ fn first_line(
 
 fn next_line(
     failed: &mut bool,
+    numbers: &mut [f64],
+    marks: &mut [u32],
     progress: Progress,
     input: &[u8],
     line: &[u8],
@@ -281,7 +324,7 @@ fn next_line(
     if begins(line, b'1') | begins(line, b'#') {
         return first_line(failed, progress, line, from, to);
     }
-    within_satellite(failed, progress, input, line)
+    within_satellite(failed, numbers, marks, progress, input, line)
 }
 
 // Where the line that begins at an index ends.
@@ -299,7 +342,7 @@ fn line_end(input: &[u8], from: usize) -> usize
     i
 }
 
-fn verify(failed: &mut bool, input: &[u8]) {
+fn verify(failed: &mut bool, numbers: &mut [f64], marks: &mut [u32], input: &[u8]) {
     let tally = Tally::start();
     let mut progress = Progress {
         stage: Stage::Nothing,
@@ -309,7 +352,7 @@ fn verify(failed: &mut bool, input: &[u8]) {
     while at < input.len() {
         let end = line_end(input, at);
         let line = &input[at..end];
-        progress = next_line(failed, progress, input, line, at, end);
+        progress = next_line(failed, numbers, marks, progress, input, line, at, end);
         at = end + 1;
     }
     end_satellite(failed, progress);
@@ -323,5 +366,7 @@ fn main() {
         print(&mut failed, b"the input is too long\n");
         return;
     }
-    verify(&mut failed, &space[..n]);
+    let mut numbers = [0f64; 83];
+    let mut marks = [0u32; 4];
+    verify(&mut failed, &mut numbers, &mut marks, &space[..n]);
 }

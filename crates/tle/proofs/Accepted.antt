@@ -8,7 +8,7 @@ use borrow.Author.Tests.{lt-ltb, le-leb, leb-true, leb-false}
 use lib.Dec.{eqb, leb, ltb}
 use lib.IntN.{natAbs, pos}
 use Rattle.instant.specs.Calendar.{dayInRange, yearInRange, epochOf}
-use Rattle.tle.specs.Layout.{layout1, layout2}
+use Rattle.columns.specs.Layout.{layout1, layout2}
 use Rattle.tle.specs.Number.{field, minus, signed}
 use Rattle.tle.specs.Legal.{inclinationInRange, angleInRange, motionInRange, inRanges, designatorFits, scaledFits, inLayout, legal}
 use Rattle.tle.specs.Read.{unless, verdictOf, pairOf, numberAt, yearOf, minusAt, ndotAt, scaledAt, motionAt, fieldsOf, formed, formOf, rangesOf, ranged, readOf}

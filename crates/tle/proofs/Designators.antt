@@ -7,7 +7,7 @@ use native.Mathlib.Omega.{arith}
 use borrow.Author.Tests.{leb-true, ne-eqb, lt-ltb}
 use lib.Dec.{eqb, leb, ltb}
 use lib.ListN.{length, getD}
-use Rattle.tle.specs.Layout.{isBlank, isDigit, isLetter, fits, agreed, layout1}
+use Rattle.columns.specs.Layout.{isBlank, isDigit, isLetter, fits, agreed, layout1}
 use Rattle.tle.specs.Number.{field}
 use Rattle.tle.specs.Read.{designatorAt}
 use Rattle.tle.specs.Legal.{pieceFits, designatorFits}

@@ -7,8 +7,8 @@ use borrow.Author.Tests.{eqb-true, not-true, not-false}
 use lib.Dec.{eqb, ltb}
 use lib.ListN.{length, getD}
 use mathlib.Core.List.{List}
-use Rattle.tle.specs.Layout.{agreed, layout1, layout2}
-use Rattle.tle.specs.Number.{digitOf}
+use Rattle.columns.specs.Layout.{agreed, layout1, layout2}
+use Rattle.columns.specs.Sum.{digitOf}
 use Rattle.tle.specs.Read.{unless, then, checksumOf, verdictOf, numberAt, pairOf}
 use Rattle.tle.specs.declared.Line.{Line}
 use Rattle.tle.specs.declared.Line.the-variants.{One, Two}

@@ -8,12 +8,13 @@ use native.Mathlib.Omega.{arith}
 use borrow.Author.Tests.{eqb-true, eqb-false}
 use lib.Dec.{eqb, ltb}
 use lib.ListN.{length, getD}
-use Rattle.tle.specs.Layout.{agreed, layout1, layout2, layoutOf}
-use Rattle.tle.specs.Number.{digitOf}
+use Rattle.columns.specs.Layout.{agreed, layout1, layout2}
+use Rattle.columns.specs.Claims.{FirstFault}
+use Rattle.columns.specs.Sum.{digitOf}
 use Rattle.tle.specs.Read.{unless, then, checksumOf, verdictOf, numberAt, pairOf, fieldsOf, formed, formOf, rangesOf, ranged, readOf}
 use Rattle.instant.specs.Calendar.{dayInRange}
 use Rattle.tle.specs.Legal.{inclinationInRange, angleInRange, motionInRange}
-use Rattle.tle.specs.Claims.{FirstFault, lineOf, FirstColumn}
+use Rattle.tle.specs.Claims.{layoutOf, lineOf, FirstColumn}
 use Rattle.tle.specs.declared.Record.{Record}
 use Rattle.tle.specs.declared.Line.{Line}
 use Rattle.tle.specs.declared.Line.the-variants.{One, Two}
@@ -26,7 +27,7 @@ use Rattle.tle.specs.declared.Form.{Form}
 use Rattle.tle.specs.declared.Form.the-variants as form
 use Rattle.tle.specs.declared.Reading.{Reading}
 use Rattle.tle.specs.declared.Reading.the-variants as reading
-use Rattle.tle.proofs.Prefix.{first-fault, open1, open2}
+use Rattle.columns.proofs.Prefix.{first-faults}
 
 -- the tests before refusal 3 were passed
 past : (test : Bool) (why x : Refusal) (next : Verdict) → (why ≡ x → ⊥) → unless test (verdict.Refused why) next ≡ verdict.Refused x
@@ -116,10 +117,10 @@ fault : (which w : Line) (line1 line2 : List ℕ) (column : ℕ) → verdictOf w
     → FirstFault (layoutOf w) (lineOf w line1 line2) column
 fault One w line1 line2 column e =
     let r = refused3 One w layout1 line1 column e in
-    rw (← r .line-is) (first-fault layout1 line1 column open1 (r .long) (r .short) (r .column-is))
+    rw (← r .line-is) (first-faults .0 line1 column (r .long) (r .short) (r .column-is))
 fault Two w line1 line2 column e =
     let r = refused3 Two w layout2 line2 column e in
-    rw (← r .line-is) (first-fault layout2 line2 column open2 (r .long) (r .short) (r .column-is))
+    rw (← r .line-is) (first-faults .1 line2 column (r .long) (r .short) (r .column-is))
 
 pub first-column : FirstColumn
 unfolding readOf formOf

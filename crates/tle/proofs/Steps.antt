@@ -1,33 +1,24 @@
 -- One turn of each loop, and its end.
-use mathlib.Core.Path.{_≡_, refl, _∙_, sym}
+use mathlib.Core.Path.{_≡_}
 use mathlib.Core.List.{List, [], _∷_}
-use mathlib.Core.Bool.{Bool, cond, true, false, _&&_}
-use Prim.Native.Nat.{ℕ, _<_, _≤_, _+_, _*_, _-_, _^_, suc}
+use Prim.Native.Nat.{ℕ, _<_, _≤_, _+_, _*_, _^_, suc}
 use native.Mathlib.Numerals.{add-one}
 use native.Mathlib.Nat.{pow-le-pow-right, pow-suc}
 use native.Mathlib.Omega.{arith}
 use lib.ListN.{length, drop, take, getD, drop-of-length-le, length-take, length-drop}
 use lib.Seq.{drop-cons}
-use lib.Dec.{eqb, leb}
-use borrow.Author.Tests.{leb-true}
-use Rattle.tle.specs.Number.{digitOf, valueOn, field, sum}
+use Rattle.columns.specs.Sum.{digitOf}
+use Rattle.columns.proofs.Sums.{digit-below}
+use Rattle.tle.specs.Number.{valueOn, field}
 
 module _ (s : List ℕ) (i : ℕ) where
   pub value-more : (a : ℕ) → i < length s → valueOn a (drop i s) ≡ valueOn (a * 10 + digitOf (getD s i 0)) (drop (i + 1) s)
   unfolding valueOn
   value-more a h = rw (add-one, drop-cons s i 0)
 
-  pub sum-more : i < length s → sum (drop i s) ≡ cond (eqb (getD s i 0) 45) 1 (digitOf (getD s i 0)) + sum (drop (i + 1) s)
-  unfolding sum
-  sum-more h = rw (add-one, drop-cons s i 0)
-
   pub value-done : (a : ℕ) → length s ≤ i → valueOn a (drop i s) ≡ a
   unfolding valueOn
   value-done a h = rw (drop-of-length-le s h)
-
-  pub sum-done : length s ≤ i → sum (drop i s) ≡ 0
-  unfolding sum
-  sum-done h = rw (drop-of-length-le s h)
 
 -- a number of i places with one place more
 pub places : (a d i : ℕ) → a < 10 ^ i → d ≤ 9 → a * 10 + d < 10 ^ (i + 1)
@@ -38,15 +29,6 @@ small a i h g = omega (arith, pow-le-pow-right {n = 10} (omega arith) {i = i} {j
 
 pub part-length : (l : List ℕ) (at w : ℕ) → at + w ≤ length l → length (take w (drop at l)) ≡ w
 part-length l at w h = simp (length-take, length-drop) (omega arith)
-
-digit-by : (b : ℕ) (low high : Bool) → leb 48 b ≡ low → leb b 57 ≡ high → cond (low && high) (b - 48) 0 ≤ 9
-digit-by b true true l h = omega (arith, leb-true b 57 h)
-digit-by b true false l h = omega arith
-digit-by b false high l h = omega arith
-
-digit-below : (b : ℕ) → digitOf b ≤ 9
-unfolding digitOf
-digit-below b = digit-by b (leb 48 b) (leb b 57) refl refl
 
 value-below : (s : List ℕ) (a k : ℕ) → a < 10 ^ k → valueOn a s < 10 ^ (k + length s)
 unfolding valueOn

@@ -1,12 +1,12 @@
 -- What is claimed of reading, beyond its definition. Proved in proofs/Least.antt and proofs/Accepted.antt.
-use Prim.Native.Nat.{ℕ, _-_}
+use Prim.Native.Nat.{ℕ}
 use mathlib.Core.Path.{_≡_}
 use mathlib.Core.Bool.{true}
 use mathlib.Core.List.{List}
-use lib.ListN.{take}
 use Rattle.instant.specs.Calendar.{epochMicros, epochOf}
 use Rattle.instant.specs.declared.Epoch.the-variants as epoch
-use Rattle.tle.specs.Layout.{Lawful, layoutOf}
+use Rattle.columns.specs.Layout.{layout1, layout2}
+use Rattle.columns.specs.Claims.{FirstFault}
 use Rattle.tle.specs.Legal.{legal}
 use Rattle.tle.specs.Read.{readOf}
 use Rattle.tle.specs.declared.Record.{Record}
@@ -15,14 +15,9 @@ use Rattle.tle.specs.declared.Line.the-variants.{One, Two}
 use Rattle.tle.specs.declared.Refusal.the-variants.{Column}
 use Rattle.tle.specs.declared.Reading.the-variants as reading
 
--- some lawful line has the same bytes in the first n columns
-abbrev pub Agrees : List ℕ → ℕ → List ℕ → Type 0
-Agrees layout n line = (l : List ℕ) × Lawful layout l × (take n l ≡ take n line)
-
--- one agrees with all columns before it, and none with it included
-pub record FirstFault (layout line : List ℕ) (column : ℕ) : Type 0 where
-  pub before : Agrees layout (column - 1) line
-  pub at : Agrees layout column line → ⊥
+abbrev pub layoutOf : Line → List ℕ
+layoutOf One = layout1
+layoutOf Two = layout2
 
 abbrev pub lineOf : Line → List ℕ → List ℕ → List ℕ
 lineOf One line1 line2 = line1

@@ -5,8 +5,9 @@ use mathlib.Core.List.{List}
 use lib.IntN.{pos, negsuc}
 use Rattle.instant.specs.Calendar.{lastDay, dayInRange}
 use Rattle.text.specs.Output.{bytes}
-use Rattle.tle.specs.Layout.{agreed}
-use Rattle.tle.specs.Number.{digitOf, valueOn, sum, signed, minus}
+use Rattle.columns.specs.Layout.{agreed}
+use Rattle.columns.specs.Sum.{digitOf, sum}
+use Rattle.tle.specs.Number.{valueOn, signed, minus}
 use Rattle.tle.specs.Read.{verdictOf, numberAt, pairOf, classOf, designatorAt, yearOf, ndotAt, scaledAt, dayAt, motionAt, degreesAt, fieldsOf, formOf, rangesOf, readOf}
 use Rattle.tle.specs.declared.Class.the-variants.{Unclassified}
 use Rattle.tle.specs.declared.Designator.the-variants.{Piece}

@@ -4,7 +4,7 @@ use mathlib.Core.Bool.{Bool, true, not, _&&_, _||_}
 use lib.Dec.{eqb, leb, ltb}
 use lib.IntN.{natAbs}
 use Rattle.instant.specs.Calendar.{dayInRange}
-use Rattle.tle.specs.Layout.{isBlank, isLetter}
+use Rattle.columns.specs.Layout.{isBlank, isLetter}
 use Rattle.tle.specs.declared.Designator.{Designator}
 use Rattle.tle.specs.declared.Designator.the-variants.{Blank, Piece}
 use Rattle.tle.specs.declared.Scaled.{Scaled}

@@ -1,4 +1,3 @@
-pub mod Layout
 pub mod Number
 pub mod Legal
 pub mod Refusals

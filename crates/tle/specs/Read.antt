@@ -6,8 +6,9 @@ use Prim.Native.Char.{code}
 use lib.Dec.{eqb, ltb, leb}
 use lib.IntN.{ℤ, pos}
 use lib.ListN.{length, take, getD}
-use Rattle.tle.specs.Layout.{agreed, isBlank, layout1, layout2}
-use Rattle.tle.specs.Number.{digitOf, field, sum, signed}
+use Rattle.columns.specs.Layout.{agreed, isBlank, layout1, layout2}
+use Rattle.columns.specs.Sum.{digitOf, sum}
+use Rattle.tle.specs.Number.{field, signed}
 use Rattle.instant.specs.Calendar.{dayInRange}
 use Rattle.tle.specs.Legal.{inclinationInRange, angleInRange, motionInRange}
 use Rattle.tle.specs.declared.Class.{Class}

@@ -11,7 +11,6 @@ mod limits;
 mod reader;
 
 pub use limits::legal;
-pub use reader::checksum;
 pub use reader::read;
 
 pub enum Class {

@@ -1,7 +1,7 @@
 // Which records are inside the layout and the ranges (document 01, "The two lines").
 
 ghost use mathlib.Core.Path.{_≡_};
-ghost use Rattle.tle.specs.Layout.{isLetter};
+ghost use Rattle.columns.specs.Layout.{isLetter};
 ghost use Rattle.tle.specs.Legal.{inclinationInRange, angleInRange, motionInRange, inRanges, pieceFits, designatorFits, scaledFits, inLayout, legal};
 use super::Designator;
 use super::Record;

@@ -2,11 +2,9 @@
 // ranges of their fields.
 
 ghost use mathlib.Core.Path.{_≡_};
-ghost use mathlib.Core.Bool.{true};
 ghost use lib.ListN.{length, getD};
-ghost use Prim.Native.Nat.{_+_, _^_, _%_, _≤_, _<_};
-ghost use Rattle.tle.specs.Layout.{fits, agreed};
-ghost use Rattle.tle.specs.Number.{digitOf, valueOn, field, weightOf, sum, signed};
+ghost use Prim.Native.Nat.{_+_, _^_, _≤_, _<_};
+ghost use Rattle.tle.specs.Number.{valueOn, field, signed};
 ghost use Rattle.tle.specs.Read.{verdictOf, numberAt, pairOf, classOf, designatorAt, yearOf, ndotAt, scaledAt, degreesAt, dayAt, motionAt, fieldsOf, formOf, rangesOf, asReading, readOf};
 use super::Class;
 use super::Designator;
@@ -21,83 +19,10 @@ use super::Verdict;
 use super::limits::angle_in_range;
 use super::limits::inclination_in_range;
 use super::limits::motion_in_range;
+use columns::agreeing;
+use columns::checksum;
+use columns::digit;
 use instant::day_in_range;
-
-// Whether byte b may stand in a column of the class (specs/Layout.antt); after: the byte before it is
-// a blank.
-fn fits_at(class: u8, after: bool, b: u8) -> bool
-    ensures { λ r. ⌜ r ≡ fits class after b ⌝ }
-{
-    let digit = (b'0' <= b) & (b <= b'9');
-    let letter = (b'A' <= b) & (b <= b'Z');
-    let blank = b == b' ';
-    ((class == b) & (class < b'A'))
-        | ((class == b'D') & digit)
-        | ((class == b'R') & (blank | digit))
-        | ((class == b'r') & (digit | (blank & after)))
-        | ((class == b'L') & ((blank & after) | (!after & letter)))
-        | ((class == b'l') & (blank | (!after & letter)))
-        | ((class == b'f') & ((blank & after) | (!after & digit)))
-        | ((class == b'S') & (blank | (b == b'+') | (b == b'-')))
-        | ((class == b'E') & ((b == b'+') | (b == b'-')))
-        | ((class == b'C') & ((b == b'U') | (b == b'C') | (b == b'S')))
-}
-
-// Whether every column agrees with the layout. The loop has no way out and no branch, so that the
-// machine can take many columns at once.
-fn keeps_layout(layout: &[u8], line: &[u8]) -> bool
-    requires { ⌜ (length (now layout) ≡ length (now line)) × (0 < length (now line)) ⌝ }
-    ensures { λ r. ⌜ (r ≡ true → agreed (now (layout .entry)) true (now (line .entry)) ≡ length (now (line .entry))) ⌝ }
-{
-    let mut keeps = fits_at(layout[0], true, line[0]);
-    let mut i = 1;
-    while i < line.len() {
-        keeps = keeps & fits_at(layout[i], line[i - 1] == b' ', line[i]);
-        i += 1;
-    }
-    keeps
-}
-
-// How many columns of the line, from the first, agree with the layout.
-fn count_agreeing(layout: &[u8], line: &[u8]) -> usize
-    requires { ⌜ length (now layout) ≡ length (now line) ⌝ }
-    ensures { λ r. ⌜ (r ≡ agreed (now (layout .entry)) true (now (line .entry))) × (r ≤ length (now (line .entry))) ⌝ }
-{
-    let mut after = true;
-    let mut i = 0;
-    while i < line.len() {
-        let b = line[i];
-        if !fits_at(layout[i], after, b) {
-            return i;
-        }
-        after = b == b' ';
-        i += 1;
-    }
-    i
-}
-
-// The same, counted column by column only where one does not agree.
-fn agreeing(layout: &[u8], line: &[u8]) -> usize
-    requires { ⌜ (length (now layout) ≡ length (now line)) × (0 < length (now line)) ⌝ }
-    ensures { λ r. ⌜ (r ≡ agreed (now (layout .entry)) true (now (line .entry))) × (r ≤ length (now (line .entry))) ⌝ }
-{
-    if keeps_layout(layout, line) {
-        return line.len();
-    }
-    count_agreeing(layout, line)
-}
-
-// The digit that a byte shows, 0 where it is none.
-fn digit(b: u8) -> u64
-    ensures { λ r. ⌜ (r ≡ digitOf b) × (r ≤ 9) ⌝ }
-{
-    if b'0' <= b {
-        if b <= b'9' {
-            return (b - b'0') as u64;
-        }
-    }
-    0
-}
 
 // The whole number that the bytes show.
 fn value(s: &[u8]) -> u64
@@ -119,54 +44,6 @@ fn field_at(line: &[u8], at: usize, w: usize) -> u64
     ensures { λ r. ⌜ (r ≡ field at w (now (line .entry))) × (r < 10 ^ w) ⌝ }
 {
     value(&line[at..at + w])
-}
-
-// What a byte adds to the checksum.
-fn weight(b: u8) -> u64
-    ensures { λ r. ⌜ (r ≡ weightOf b) × (r ≤ 9) ⌝ }
-{
-    if b == b'-' {
-        return 1;
-    }
-    digit(b)
-}
-
-// The sum of what the bytes add: of 7,000 bytes, at most 9 each, it fits 16 bits, and the machine can
-// add several at once.
-fn short_sum(s: &[u8]) -> u16
-    requires { ⌜ length (now s) ≤ 7000 ⌝ }
-    ensures { λ r. ⌜ r ≡ sum (now (s .entry)) ⌝ }
-{
-    let mut t: u16 = 0;
-    let mut i = 0;
-    while i < s.len() {
-        t += weight(s[i]) as u16;
-        i += 1;
-    }
-    t
-}
-
-// The sum of any number of bytes, modulo 10.
-fn long_checksum(s: &[u8]) -> u64
-    ensures { λ r. ⌜ r ≡ sum (now (s .entry)) % 10 ⌝ }
-{
-    let mut t: u64 = 0;
-    let mut i = 0;
-    while i < s.len() {
-        t = (t + weight(s[i])) % 10;
-        i += 1;
-    }
-    t
-}
-
-// The checksum digit of the bytes: the sum of what each adds, modulo 10.
-pub fn checksum(s: &[u8]) -> u64
-    ensures { λ r. ⌜ r ≡ sum (now (s .entry)) % 10 ⌝ }
-{
-    if s.len() <= 7000 {
-        return (short_sum(s) % 10) as u64;
-    }
-    long_checksum(s)
 }
 
 // Refusals 1 to 4 of one line, by its layout.
@@ -198,8 +75,8 @@ fn number_at(line: &[u8]) -> u64
     field_at(line, 2, 5)
 }
 
-// Refusals 1 to 5: line 1, then line 2, then both. specs/Layout.antt says what each letter of a
-// layout stands for.
+// Refusals 1 to 5: line 1, then line 2, then both. crate columns says what each letter of a layout
+// stands for.
 fn judge_pair(line1: &[u8], line2: &[u8]) -> Verdict
     ensures { λ r. ⌜ r ≡ pairOf (now (line1 .entry)) (now (line2 .entry)) ⌝ }
 {

@@ -7,7 +7,7 @@ use native.Mathlib.Omega.{arith}
 use borrow.Author.Tests.{ltb-true, ne-eqb}
 use lib.Dec.{eqb, ltb}
 use Rattle.text.specs.Output.{bytes}
-use Rattle.tle.specs.Layout.{isLetter, isBlank}
+use Rattle.columns.specs.Layout.{isLetter, isBlank}
 use Rattle.tle.specs.Number.{valueOn}
 use Rattle.tle.specs.Legal.{designatorFits}
 use Rattle.tle.specs.Read.{numberAt, designatorAt, ndotAt, scaledAt, dayAt, motionAt, degreesAt, fieldsOf, letter}

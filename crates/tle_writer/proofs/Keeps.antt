@@ -9,7 +9,7 @@ use lib.Dec.{eqb, leb, ltb}
 use lib.IntN.{ℤ, pos, negsuc, natAbs}
 use lib.ListN.{length}
 use Rattle.text.specs.Output.{bytes}
-use Rattle.tle.specs.Layout.{isDigit, isLetter, isBlank, fits, agreed}
+use Rattle.columns.specs.Layout.{isDigit, isLetter, isBlank, fits, agreed}
 use Rattle.tle.specs.Legal.{designatorFits}
 use Rattle.tle.specs.Read.{letter}
 use Rattle.tle.specs.declared.Class.{Class}

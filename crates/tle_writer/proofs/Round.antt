@@ -9,8 +9,9 @@ use lib.Dec.{eqb}
 use lib.ListN.{length, take, getD}
 use lib.Seq.{take-at, getD-at}
 use Rattle.text.specs.Output.{bytes}
-use Rattle.tle.specs.Layout.{layout1, layout2, layoutOf, agreed}
-use Rattle.tle.specs.Number.{digitOf, sum}
+use Rattle.columns.specs.Layout.{layout1, layout2, agreed}
+use Rattle.tle.specs.Claims.{layoutOf}
+use Rattle.columns.specs.Sum.{digitOf, sum}
 use Rattle.tle.specs.Legal.{legal}
 use Rattle.tle.specs.Read.{verdictOf, numberAt, pairOf, formOf, rangesOf, readOf}
 use Rattle.tle.specs.declared.Record.{Record}

@@ -8,7 +8,8 @@ use native.Mathlib.Nat.{pow-suc}
 use borrow.Author.Tests.{eqb-true, le-leb, leb-true, leb-false, ltb-true}
 use lib.Dec.{eqb, leb, ltb}
 use lib.IntN.{ℤ, pos, negsuc, natAbs}
-use Rattle.tle.specs.Number.{digitOf, valueOn, minus, signed}
+use Rattle.columns.specs.Sum.{digitOf}
+use Rattle.tle.specs.Number.{valueOn, minus, signed}
 use Rattle.tle.specs.Legal.{scaledFits}
 use Rattle.tle.specs.Read.{classOf, yearOf, letter}
 use Rattle.tle.specs.declared.Class.{Class}

@@ -9,7 +9,7 @@ use denote.Ref.{RefT, now, at-last}
 use lib.ListN.{length, take, drop, drop-of-length-le}
 use lib.Seq.{drop-drop, take-at}
 use Rattle.text.specs.Output.{bytes}
-use Rattle.tle.specs.Number.{sum}
+use Rattle.columns.specs.Sum.{sum}
 use Rattle.tle.specs.Legal.{legal}
 use Rattle.tle.specs.declared.Record.{Record}
 use Rattle.tle.specs.declared.Line.{Line}

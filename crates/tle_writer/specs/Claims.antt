@@ -2,7 +2,8 @@
 use mathlib.Core.Path.{_≡_}
 use mathlib.Core.Bool.{true}
 use lib.ListN.{length}
-use Rattle.tle.specs.Layout.{Lawful, layoutOf}
+use Rattle.columns.specs.Layout.{Lawful}
+use Rattle.tle.specs.Claims.{layoutOf}
 use Rattle.tle.specs.Legal.{legal}
 use Rattle.tle.specs.Read.{readOf}
 use Rattle.tle.specs.declared.Record.{Record}

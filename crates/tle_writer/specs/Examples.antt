@@ -1,7 +1,7 @@
 -- The example of 002, as document 01 prints it: written from its record, byte for byte.
 use mathlib.Core.Path.{_≡_, refl}
 use Rattle.tle.specs.Examples.{line1, line2, vanguard}
-use Rattle.tle.specs.Number.{sum, digitOf}
+use Rattle.columns.specs.Sum.{sum, digitOf}
 use Rattle.tle.specs.Read.{letter}
 use Rattle.tle.specs.declared.Line.the-variants.{One, Two}
 use Rattle.tle_writer.specs.Field.{place, lead, sign, exponentSign, designator}

@@ -2,7 +2,7 @@
 use Prim.Native.Nat.{ℕ, _%_}
 use mathlib.Core.List.{List, [], _∷_, _++_}
 use Rattle.text.specs.Output.{bytes}
-use Rattle.tle.specs.Number.{sum}
+use Rattle.columns.specs.Sum.{sum}
 use Rattle.tle.specs.Read.{letter}
 use Rattle.tle.specs.declared.Record.{Record}
 use Rattle.tle.specs.declared.Line.{Line}

@@ -14,9 +14,9 @@ use super::fields::put_fraction;
 use super::fields::put_pointed;
 use super::fields::put_right;
 use super::fields::put_scaled;
+use columns::checksum;
 use tle::Line;
 use tle::Record;
-use tle::checksum;
 
 // A line whose last column is its checksum.
 fn closed(line: [u8; 69]) -> [u8; 69]

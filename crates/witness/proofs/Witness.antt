@@ -13,7 +13,8 @@ use Rattle.elementary.specs.Angle.{halved, series, arctan, quarter, placed, ata
 use Rattle.instant.specs.Quantity.{over, decimalOf, poweredOf, scaledOf, deg2rad, radiansOf}
 use Rattle.instant.specs.Calendar.{daysIn, daysBefore, lastDay, dayInRange, yearInRange, epochMicros, epochOf}
 use Rattle.instant.specs.Greenwich.{epochDaysOf, julianOf, rate, siderealOf, quadrant, gstimeOf, greenwichOf}
-use Rattle.tle.specs.Layout.{agreed}
+use Rattle.columns.specs.Layout.{agreed}
+use Rattle.columns.specs.Sum.{digitOf, sum}
 use Rattle.tle.specs.Number as number
 use Rattle.tle.specs.Legal.{inRanges, designatorFits, scaledFits, inLayout, legal}
 use Rattle.tle.specs.Read.{verdictOf, numberAt, pairOf, classOf, designatorAt, yearOf, ndotAt, scaledAt, dayAt, motionAt, degreesAt, fieldsOf, formOf, rangesOf, readOf}
@@ -40,7 +41,7 @@ use Rattle.opening.specs.DeepSpace.{common, unchanged, setUp, orbit, atEpoch, d
 use Rattle.opening.specs.Opening.{modelOf, newly, finiteDeep, finiteMethod, finiteRecord, checked, above, started, dated, openOf, opened, afterReading, openPairOf}
 use Rattle.opening.proofs.Made.{made-of}
 use Rattle.sgp4.specs.Sgp4.{integratorBy, integratorOf}
-use Rattle.requests.proofs.Edges.{edges-hold}
+use Rattle.sequences.proofs.Edges.{edges-hold}
 use Rattle.witness.specs.Witness.{Pair, italsat, molniya, irez, Opens, Witnessed}
 
 -- the kind of resonance of what two lines open to; 0 where they do not
@@ -53,7 +54,7 @@ computed : (kindIn (openPairOf (italsat .line1) (italsat .line2)) ≡ 1) × (kin
 unfolding kindIn irez integratorOf integratorBy
     openPairOf afterReading opened openOf dated started above checked finiteRecord finiteMethod finiteDeep newly modelOf
     readOf formOf rangesOf pairOf verdictOf agreed fieldsOf numberAt classOf designatorAt yearOf ndotAt scaledAt dayAt motionAt degreesAt
-    number.digitOf number.valueOn number.sum number.minus number.signed
+    digitOf sum number.valueOn number.minus number.signed
     legal inLayout inRanges designatorFits scaledFits
     epochOf epochMicros yearInRange dayInRange lastDay daysBefore daysIn epochDaysOf julianOf gstimeOf greenwichOf siderealOf rate quadrant
     elementsOf bstarOf xpdotp decimalOf scaledOf poweredOf over radiansOf deg2rad

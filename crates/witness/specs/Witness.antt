@@ -11,7 +11,7 @@ use Rattle.opening.specs.declared.opening.PairOpening.{PairOpening}
 use Rattle.opening.specs.declared.opening.PairOpening.the-variants as pair
 use Rattle.opening.specs.Opening.{openPairOf}
 use Rattle.sgp4.specs.Sgp4.{integratorOf}
-use Rattle.requests.specs.Edges.{Each, edges}
+use Rattle.sequences.specs.Edges.{Each, edges}
 
 pub record Pair : Type 0 where
   pub line1 : List ℕ

@@ -1,7 +1,7 @@
 use mathlib.Core.Path.{refl, sym, _∙_}
 use borrow.Author.Needs.{needs}
 use Rattle.script.specs.Script.{ranOf}
-use Rattle.script.proofs.Rooms.{said-no, said-yes}
+use Rattle.script_room.proofs.Room.{said-no, said-yes}
 use Rattle.script.proofs.Posts.{post-short, post-closed, post-done, enough}
 use Rattle.script.proofs.run_script.Statement.{statement}
 use Rattle.script.proofs.run_script.Tie as tie

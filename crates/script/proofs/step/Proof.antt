@@ -3,7 +3,7 @@ use mir.Syntax.{w64}
 use mir.ValLaws.{toZ-ofZ}
 use native.Mathlib.Omega.{arith}
 use borrow.Author.Needs.{needs}
-use Rattle.script.proofs.Rooms.{taken-zero, taken-more, due-zero}
+use Rattle.script_room.proofs.Room.{taken-zero, taken-more, due-zero}
 use Rattle.script.proofs.Running.{step-is, one-of, many-of}
 use Rattle.script.proofs.step.Statement.{statement}
 use Rattle.script.proofs.step.Tie as tie

@@ -1,0 +1,3 @@
+pub mod Layout
+pub mod Sum
+pub mod Claims

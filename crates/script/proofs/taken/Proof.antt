@@ -1,7 +1,0 @@
-use borrow.Author.Needs.{needs}
-use Rattle.script.proofs.Rooms.{taken-zero, taken-more}
-use Rattle.script.proofs.taken.Statement.{statement}
-use Rattle.script.proofs.taken.Tie as tie
-
-pub taken-spec : {M : Type 1} → statement M
-taken-spec = tie.close (tie.spec (λ c. taken-zero _ (c .if1 .taken)) (λ c. search needs) (λ c. taken-more _ (c .if1 .left)))
