@@ -48,6 +48,7 @@ pub fn print_decimal(failed: &mut bool, n: u64)
 // Reads standard input to its end, or until the space is full.
 pub fn read_all(failed: &mut bool, space: &mut [u8]) -> usize
     ensures { λ r. ⌜ Counts r (now (space .exit)) ⌝ }
+    ensures { λ r. ⌜ (now (failed .entry) ≡ true → (now (failed .exit) ≡ true) × (r ≡ 0)) ⌝ }
 {
     let mut n = 0;
     while n < space.len() {

@@ -1,5 +1,6 @@
 use Prim.Native.Nat.{ℕ, _+_, _-_, _≤_, _<_}
 use mathlib.Core.Path.{_≡_, refl, _∙_}
+use mathlib.Core.Bool.{true}
 use mathlib.Core.List.{List}
 use native.Mathlib.Omega.{arith}
 use lib.ListN.{length}
@@ -10,7 +11,7 @@ use Rattle.streams.proofs.read_all.Statement.{statement}
 use Rattle.streams.proofs.read_all.Tie as tie
 
 abbrev Inv-loop : tie.InvT-loop
-Inv-loop failed₀ space₀ n₀ failed space n = (n ≤ length space) × (length space ≡ length space₀)
+Inv-loop failed₀ space₀ n₀ failed space n = (n ≤ length space) × (length space ≡ length space₀) × (failed₀ ≡ true → (failed ≡ true) × (n ≡ 0))
 
 abbrev μ-loop : tie.MeasureT-loop
 μ-loop failed₀ space₀ n₀ failed space n = length space - n
@@ -24,7 +25,7 @@ module _ (n : ℕ) (space part : List ℕ) (e : length part ≡ length (midOf n 
   room = e ∙ mid-len n (length space) space (omega arith)
 
 loop-holds : tie.Need-loop-holds Inv-loop μ-loop
-loop-holds c = (omega arith, refl)
+loop-holds c = (omega arith, refl, λ e. (e, refl))
 
 same-length : tie.Need-same-length Inv-loop μ-loop
 same-length c =
@@ -36,7 +37,10 @@ returns : tie.Need-returns Inv-loop μ-loop
 returns c =
     let r = c .before .before .before in
     let l = r .before .before .before .before .loop in
-    counts _ _ (omega (arith, back (l .n) (l .space) (r .read .last .1 .0) (r .read .kept .1 .0), l .inv .0))
+    let marked = l .inv .2 in (
+      counts _ _ (omega (arith, back (l .n) (l .space) (r .read .last .1 .0) (r .read .kept .1 .0), l .inv .0)),
+      λ e. (r .read .ensures .1 (marked e .0) .0, marked e .1),
+    )
 
 add-n : tie.Need-add-n Inv-loop μ-loop
 add-n c =
@@ -59,13 +63,18 @@ loop-again c =
     let part = r .read .last .1 .0 in
     let k = r .read .kept .1 .0 in
     let b = back (l .n) (l .space) part k in
-    (omega (arith, b, room (l .n) (l .space) part k, r .read .ensures .0 .0), b ∙ l .inv .1)
+    let marked = l .inv .2 in
+    let none = r .read .ensures .1 in (
+      omega (arith, b, room (l .n) (l .space) part k, r .read .ensures .0 .0),
+      b ∙ l .inv .1,
+      λ e. let m = marked e in let z = none (m .0) in (z .0, omega (arith, m .1, z .1)),
+    )
 
 same-length-2 : tie.Need-same-length-2 Inv-loop μ-loop
 same-length-2 c = c .before .loop .inv .1
 
 returns-2 : tie.Need-returns-2 Inv-loop μ-loop
-returns-2 c = counts _ _ (c .before .loop .inv .0)
+returns-2 c = (counts _ _ (c .before .loop .inv .0), c .before .loop .inv .2)
 
 pub read-all-spec : {M : Type 1} → statement M
 read-all-spec =
