@@ -1,7 +1,7 @@
 // Standard input and output for every program. A read or a write that fails is told once, in words, on
-// standard error, and marks the flag that the program lends; from then on nothing is read and nothing
-// printed. So a failed read is never taken for the end of the input, and a program that passes the flag
-// along has nothing else to look after.
+// standard error, and marks the flag that the program lends; from then on nothing is read, what the
+// program lends to read into stays, and nothing is printed. So a failed read is never taken for the end
+// of the input, and a program that passes the flag along has nothing else to look after.
 ghost use mathlib.Core.Path.{_≡_};
 ghost use mathlib.Core.Bool.{true};
 ghost use Rattle.io.specs.Counts.{Counts};
@@ -11,7 +11,7 @@ use libc::STDOUT_FILENO;
 // One read of standard input into the buffer: how many bytes came, none at the end of the input.
 pub fn read(failed: &mut bool, buffer: &mut [u8]) -> usize
     ensures { λ r. ⌜ Counts r (now (buffer .exit)) ⌝ }
-    ensures { λ r. ⌜ (now (failed .entry) ≡ true → (now (failed .exit) ≡ true) × (r ≡ 0)) ⌝ }
+    ensures { λ r. ⌜ (now (failed .entry) ≡ true → (now (failed .exit) ≡ true) × (r ≡ 0) × (now (buffer .exit) ≡ now (buffer .entry))) ⌝ }
 {
     if *failed {
         return 0;
@@ -48,7 +48,7 @@ pub fn print_decimal(failed: &mut bool, n: u64)
 // Reads standard input to its end, or until the space is full.
 pub fn read_all(failed: &mut bool, space: &mut [u8]) -> usize
     ensures { λ r. ⌜ Counts r (now (space .exit)) ⌝ }
-    ensures { λ r. ⌜ (now (failed .entry) ≡ true → (now (failed .exit) ≡ true) × (r ≡ 0)) ⌝ }
+    ensures { λ r. ⌜ (now (failed .entry) ≡ true → (now (failed .exit) ≡ true) × (r ≡ 0) × (now (space .exit) ≡ now (space .entry))) ⌝ }
 {
     let mut n = 0;
     while n < space.len() {

@@ -1,17 +1,18 @@
 use Prim.Native.Nat.{ℕ, _+_, _-_, _≤_, _<_}
-use mathlib.Core.Path.{_≡_, refl, _∙_}
+use mathlib.Core.Path.{_≡_, refl, ap, _∙_}
 use mathlib.Core.Bool.{true}
 use mathlib.Core.List.{List}
 use native.Mathlib.Omega.{arith}
 use lib.ListN.{length}
 use borrow.Author.Needs.{needs}
-use borrow.Rule.Slice.PartMut.{midOf, putMid, same-len-mid, mid-len}
+use borrow.Rule.Slice.PartMut.{midOf, putMid, same-len-mid, mid-len, put-same}
 use Rattle.io.proofs.Counting.{counts}
 use Rattle.streams.proofs.read_all.Statement.{statement}
 use Rattle.streams.proofs.read_all.Tie as tie
 
 abbrev Inv-loop : tie.InvT-loop
-Inv-loop failed₀ space₀ n₀ failed space n = (n ≤ length space) × (length space ≡ length space₀) × (failed₀ ≡ true → (failed ≡ true) × (n ≡ 0))
+Inv-loop failed₀ space₀ n₀ failed space n =
+    (n ≤ length space) × (length space ≡ length space₀) × (failed₀ ≡ true → (failed ≡ true) × (n ≡ 0) × (space ≡ space₀))
 
 abbrev μ-loop : tie.MeasureT-loop
 μ-loop failed₀ space₀ n₀ failed space n = length space - n
@@ -24,8 +25,12 @@ module _ (n : ℕ) (space part : List ℕ) (e : length part ≡ length (midOf n 
   room : length part ≡ length space - n
   room = e ∙ mid-len n (length space) space (omega arith)
 
+-- a part that is as it was leaves the space as it was
+unread : (n : ℕ) (space part : List ℕ) → part ≡ midOf n (length space - n) space → putMid n (length space - n) space part ≡ space
+unread n space part e = ap (putMid n (length space - n) space) e ∙ put-same n (length space - n) space
+
 loop-holds : tie.Need-loop-holds Inv-loop μ-loop
-loop-holds c = (omega arith, refl, λ e. (e, refl))
+loop-holds c = (omega arith, refl, λ e. (e, refl, refl))
 
 same-length : tie.Need-same-length Inv-loop μ-loop
 same-length c =
@@ -36,10 +41,9 @@ same-length c =
 returns : tie.Need-returns Inv-loop μ-loop
 returns c =
     let r = c .before .before .before in
-    let l = r .before .before .before .before .loop in
-    let marked = l .inv .2 in (
+    let l = r .before .before .before .before .loop in (
       counts _ _ (omega (arith, back (l .n) (l .space) (r .read .last .1 .0) (r .read .kept .1 .0), l .inv .0)),
-      λ e. (r .read .ensures .1 (marked e .0) .0, marked e .1),
+      λ e. let m = l .inv .2 e in let z = r .read .ensures .1 (m .0) in (z .0, m .1, unread (l .n) (l .space) (r .read .last .1 .0) (z .2) ∙ m .2),
     )
 
 add-n : tie.Need-add-n Inv-loop μ-loop
@@ -62,12 +66,10 @@ loop-again c =
     let l = r .before .before .before .before .loop in
     let part = r .read .last .1 .0 in
     let k = r .read .kept .1 .0 in
-    let b = back (l .n) (l .space) part k in
-    let marked = l .inv .2 in
-    let none = r .read .ensures .1 in (
+    let b = back (l .n) (l .space) part k in (
       omega (arith, b, room (l .n) (l .space) part k, r .read .ensures .0 .0),
       b ∙ l .inv .1,
-      λ e. let m = marked e in let z = none (m .0) in (z .0, omega (arith, m .1, z .1)),
+      λ e. let m = l .inv .2 e in let z = r .read .ensures .1 (m .0) in (z .0, omega (arith, m .1, z .1), unread (l .n) (l .space) part (z .2) ∙ m .2),
     )
 
 same-length-2 : tie.Need-same-length-2 Inv-loop μ-loop
