@@ -19,12 +19,13 @@ use Rattle.tle.specs.declared.Designator.the-variants.{Blank, Piece}
 use Rattle.tle.specs.declared.Record.{Record}
 use Rattle.tle.specs.Read.{letter}
 use Rattle.tle_writer.proofs.Facts.{Facts, both, facts, day-below}
+use Rattle.tle_writer.proofs.Values.{class-value}
 use Rattle.record_numbers.specs.Numbers.{placesOf, numbersOf, whole, byte, designatorFrom, designatorAt, at, recordAt, Small, isClass, givenOf, storeRefusal, storedOver}
 use Rattle.record_numbers.specs.Back.{StoredIsGiven, GivenIsStored}
 use Rattle.record_numbers.specs.declared.Places.{Places}
 use Rattle.record_numbers.specs.declared.Given.{Given}
 use Rattle.record_numbers.specs.declared.Given.the-variants.{Fields, NoClass, TooShort}
-use Rattle.record_numbers.proofs.Small.{letter-small, places-small, small}
+use Rattle.record_numbers.proofs.Small.{class-byte, places-small, small}
 
 -- ── a record's numbers give the record ──
 
@@ -32,11 +33,8 @@ byte-back : (n : ℕ) → n < 256 → byte (pos n) ≡ n
 unfolding byte whole
 byte-back n h = rw (lt-ltb n 256 h)
 
-class-back : (c : Class) → classOf (letter c) ≡ c
-unfolding classOf letter
-class-back Unclassified = refl
-class-back Classified = refl
-class-back Secret = refl
+letter-back : (c : Class) → byte (pos (letter c)) ≡ letter c
+letter-back c = byte-back (letter c) (class-byte c .1)
 
 class-is : (c : Class) → isClass (letter c) ≡ true
 unfolding isClass letter
@@ -71,7 +69,7 @@ record-back r ns k =
     let s = places-small d (k .designator) in
     λ i. record {
       number = r .number;
-      class = class-back (r .class) i;
+      class = (ap classOf (letter-back (r .class)) ∙ class-value (r .class)) i;
       designator = (four (placesOf d .launch) (byte-back (placesOf d .a) (s .1 .1)) (byte-back (placesOf d .b) (s .2 .1)) (byte-back (placesOf d .c) (s .3 .1)) ∙ designator-back d (k .designator)) i;
       year = r .year;
       day = r .day;
@@ -93,9 +91,9 @@ long : (r : Record) (ns : List ℤ) → ltb (length (numbersOf r ++ ns)) 22 ≡ 
 unfolding numbersOf
 long r ns = le-ltb (length (numbersOf r ++ ns)) 22 (omega arith)
 
-class-at : (r : Record) (ns : List ℤ) → isClass (whole (at (numbersOf r ++ ns) 1)) ≡ true
-unfolding numbersOf whole
-class-at r ns = class-is (r .class)
+class-at : (r : Record) (ns : List ℤ) → isClass (byte (at (numbersOf r ++ ns) 1)) ≡ true
+unfolding numbersOf
+class-at r ns = ap isClass (letter-back (r .class)) ∙ class-is (r .class)
 
 pub stored-is-given : StoredIsGiven
 unfolding givenOf storedOver storeRefusal
@@ -155,18 +153,18 @@ given-by true k x r e = let z : _≡_ {A = ℕ} 0 1 = cc in absurd (omega arith)
 given-by false true x r e = (refl, refl, ap (fieldsOr r) e)
 given-by false false x r e = let z : _≡_ {A = ℕ} 0 1 = cc in absurd (omega arith)
 
-numbers-back : (ns : List ℤ) → isClass (whole (at ns 1)) ≡ true → Facts (recordAt ns) → Small (recordAt ns) → from 0 22 ns ≡ numbersOf (recordAt ns)
+numbers-back : (ns : List ℤ) → isClass (byte (at ns 1)) ≡ true → Facts (recordAt ns) → Small (recordAt ns) → from 0 22 ns ≡ numbersOf (recordAt ns)
 unfolding recordAt designatorAt numbersOf
 numbers-back ns c f k =
     let d = placed (whole (at ns 2)) (byte (at ns 3)) (byte (at ns 4)) (byte (at ns 5)) in
     let b = places-small (designatorAt ns) (f .designator) in
-    let w = whole (at ns 1) in
+    let w = byte (at ns 1) in
     let class = class-by (eqb w 85) (eqb w 67) w refl refl c in
     let byte-is : (x : ℤ) (p : Places → ℕ) → p (placesOf (designatorAt ns)) ≡ byte x → 0 < p (placesOf (designatorAt ns)) → x ≡ pos (p (placesOf (designatorAt ns))) =
     λ x p e h. byte-by (ltb (whole x) 256) x refl (omega arith) ∙ sym (ap pos e) in
     λ i.
     whole-back (at ns 0) (k .4) i
-    ∷ (whole-back (at ns 1) (omega (arith, class, letter-small (classOf w))) ∙ ap pos class) i
+    ∷ (byte-by (ltb (whole (at ns 1)) 256) (at ns 1) refl (omega (arith, class, class-byte (classOf w))) ∙ ap pos class) i
     ∷ (whole-back (at ns 2) (omega (arith, k .0, ap (λ p. p .launch) d)) ∙ sym (ap (λ p. pos (p .launch)) d)) i
     ∷ byte-is (at ns 3) (λ p. p .a) (ap (λ p. p .a) d) (b .1 .0) i
     ∷ byte-is (at ns 4) (λ p. p .b) (ap (λ p. p .b) d) (b .2 .0) i
@@ -188,6 +186,6 @@ numbers-back ns c f k =
 pub given-is-stored : GivenIsStored
 unfolding givenOf
 given-is-stored r ns e h =
-    let g = given-by (ltb (length ns) 22) (isClass (whole (at ns 1))) (recordAt ns) r e in
+    let g = given-by (ltb (length ns) 22) (isClass (byte (at ns 1))) (recordAt ns) r e in
     let l = rw (← g .2) at h in
     taken-from 0 22 ns (omega (arith, ltb-false (length ns) 22 (g .0))) ∙ numbers-back ns (g .1) (facts (recordAt ns) l) (small (recordAt ns) l) ∙ ap numbersOf (g .2)

@@ -18,15 +18,15 @@ use Rattle.tle.specs.Read.{letter}
 use Rattle.tle_writer.proofs.Facts.{both, facts, day-below}
 use Rattle.record_numbers.specs.Numbers.{placesOf, Small}
 
-pub letter-small : (c : Class) → letter c < 256
-unfolding letter
-letter-small Unclassified = omega arith
-letter-small Classified = omega arith
-letter-small Secret = omega arith
-
 -- a byte that is not 0
 abbrev Byte : ℕ → Type 0
 Byte b = (0 < b) × (b < 256)
+
+pub class-byte : (c : Class) → Byte (letter c)
+unfolding letter
+class-byte Unclassified = (omega arith, omega arith)
+class-byte Classified = (omega arith, omega arith)
+class-byte Secret = (omega arith, omega arith)
 
 letter-byte : (b : ℕ) → isLetter b ≡ true → Byte b
 letter-byte b h = let t = both (leb 65 b) (leb b 90) h in (omega (arith, leb-true 65 b (t .0)), omega (arith, leb-true b 90 (t .1)))

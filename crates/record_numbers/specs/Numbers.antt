@@ -11,12 +11,11 @@ use lib.Dec.{eqb, ltb}
 use lib.IntN.{ℤ, pos, negsuc, natAbs}
 use lib.ListN.{length, drop, getD}
 use Rattle.tle.specs.Legal.{legal}
-use Rattle.tle.specs.Read.{classOf}
+use Rattle.tle.specs.Read.{classOf, letter}
 use Rattle.tle.specs.declared.Designator.{Designator}
 use Rattle.tle.specs.declared.Designator.the-variants as designator
 use Rattle.tle.specs.declared.Scaled.{Scaled}
 use Rattle.tle.specs.declared.Record.{Record}
-use Rattle.tle.specs.Read.{letter}
 use Rattle.record_numbers.specs.declared.Places.{Places}
 use Rattle.record_numbers.specs.declared.Given.{Given}
 use Rattle.record_numbers.specs.declared.Given.the-variants.{Fields, NoClass, TooShort}
@@ -52,7 +51,7 @@ unfoldable pub whole : ℤ → ℕ
 whole (pos n) = n
 whole (negsuc n) = 18446744073709551615
 
--- a byte; any other number counts as 0, which no designator holds
+-- a byte; any other number counts as 0, which is no class and which no designator holds
 unfoldable pub byte : ℤ → ℕ
 byte x = cond (ltb (whole x) 256) (whole x) 0
 
@@ -72,7 +71,7 @@ scaledAt ns i = record { mantissa = at ns i; exponent = at ns (i + 1) }
 unfoldable pub recordAt : List ℤ → Record
 recordAt ns = record {
   number = whole (at ns 0);
-  class = classOf (whole (at ns 1));
+  class = classOf (byte (at ns 1));
   designator = designatorAt ns;
   year = whole (at ns 6);
   day = whole (at ns 7);
@@ -96,7 +95,7 @@ isClass b = eqb b (code "U") || eqb b (code "C") || eqb b (code "S")
 
 -- fewer than 22 numbers hold no record
 unfoldable pub givenOf : List ℤ → Given
-givenOf ns = cond (ltb (length ns) 22) TooShort (cond (isClass (whole (at ns 1))) (Fields (recordAt ns)) NoClass)
+givenOf ns = cond (ltb (length ns) 22) TooShort (cond (isClass (byte (at ns 1))) (Fields (recordAt ns)) NoClass)
 
 -- document 01's number of each answer; nothing comes back with it
 abbrev pub numberOf : Given → ℕ

@@ -4,7 +4,7 @@ ghost use mathlib.Core.List.{_++_};
 ghost use Prim.Native.Nat.{_+_, _<_, _≤_, _^_};
 ghost use lib.IntN.{pos};
 ghost use lib.ListN.{length, drop};
-ghost use Rattle.tle.specs.Read.{classOf, letter};
+ghost use Rattle.tle.specs.Read.{letter};
 ghost use Rattle.record_numbers.specs.Numbers as N;
 use tle::Class;
 use tle::Designator;
@@ -170,18 +170,6 @@ fn designator_from(launch: u64, a: u8, b: u8, c: u8) -> Designator
     Designator::Piece { launch, a, b, c }
 }
 
-fn class_from(b: u64) -> Class
-    ensures { λ r. ⌜ r ≡ classOf b ⌝ }
-{
-    if b == 85 {
-        return Class::Unclassified;
-    }
-    if b == 67 {
-        return Class::Classified;
-    }
-    Class::Secret
-}
-
 fn designator_at(fields: &[i64]) -> Designator
     requires { ⌜ 22 ≤ length (now fields) ⌝ }
     ensures { λ r. ⌜ r ≡ N.designatorAt (now (fields .entry)) ⌝ }
@@ -207,7 +195,7 @@ fn record_at(fields: &[i64]) -> Record
     requires { ⌜ 22 ≤ length (now fields) ⌝ }
     ensures { λ r. ⌜ r ≡ N.recordAt (now (fields .entry)) ⌝ }
 {
-    let class = class_from(whole_at(fields, 1));
+    let class = Class::of_letter(byte_at(fields, 1));
     let designator = designator_at(fields);
     let nddot = scaled_at(fields, 9);
     let bstar = scaled_at(fields, 11);
@@ -232,10 +220,10 @@ fn record_at(fields: &[i64]) -> Record
     }
 }
 
-fn is_class(b: u64) -> bool
+fn is_class(b: u8) -> bool
     ensures { λ r. ⌜ r ≡ N.isClass b ⌝ }
 {
-    (b == 85) | (b == 67) | (b == 83)
+    (b == b'U') | (b == b'C') | (b == b'S')
 }
 
 // The record that the numbers at the front of the memory give, whoever wrote them.
@@ -245,7 +233,7 @@ pub fn record_of(fields: &[i64]) -> Given
     if fields.len() < 22 {
         return Given::TooShort;
     }
-    if !is_class(whole_at(fields, 1)) {
+    if !is_class(byte_at(fields, 1)) {
         return Given::NoClass;
     }
     Given::Fields(record_at(fields))

@@ -2,7 +2,7 @@
 
 ghost use mathlib.Core.Path.{_≡_};
 ghost use Rattle.instant.specs.Calendar.{epochOf};
-ghost use Rattle.tle.specs.Read.{letter};
+ghost use Rattle.tle.specs.Read.{classOf, letter};
 ghost use Rattle.tle.specs.Refusals.{numberOf};
 use instant::Epoch;
 use instant::epoch_instant;
@@ -29,6 +29,20 @@ impl Class {
             Class::Classified => b'C',
             Class::Secret => b'S',
         }
+    }
+
+    // The class whose letter b is. Whether b is one of the three is the layout's to judge: any other byte
+    // counts as S.
+    pub fn of_letter(b: u8) -> Class
+        ensures { λ c. ⌜ c ≡ classOf b ⌝ }
+    {
+        if b == b'U' {
+            return Class::Unclassified;
+        }
+        if b == b'C' {
+            return Class::Classified;
+        }
+        Class::Secret
     }
 }
 

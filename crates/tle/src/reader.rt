@@ -2,10 +2,10 @@
 // ranges of their fields.
 
 ghost use mathlib.Core.Path.{_≡_};
-ghost use lib.ListN.{length, getD};
+ghost use lib.ListN.{length};
 ghost use Prim.Native.Nat.{_+_, _^_, _≤_, _<_};
 ghost use Rattle.tle.specs.Number.{valueOn, field, signed};
-ghost use Rattle.tle.specs.Read.{verdictOf, numberAt, pairOf, classOf, designatorAt, yearOf, ndotAt, scaledAt, degreesAt, dayAt, motionAt, fieldsOf, formOf, rangesOf, asReading, readOf};
+ghost use Rattle.tle.specs.Read.{verdictOf, numberAt, pairOf, designatorAt, yearOf, ndotAt, scaledAt, degreesAt, dayAt, motionAt, fieldsOf, formOf, rangesOf, asReading, readOf};
 use super::Class;
 use super::Designator;
 use super::Field;
@@ -94,20 +94,6 @@ fn judge_pair(line1: &[u8], line2: &[u8]) -> Verdict
         return Verdict::Refused(Refusal::Numbers);
     }
     Verdict::Lawful
-}
-
-fn class_at(line: &[u8]) -> Class
-    requires { ⌜ length (now line) ≡ 69 ⌝ }
-    ensures { λ r. ⌜ r ≡ classOf (getD (now (line .entry)) 7 0) ⌝ }
-{
-    let b = line[7];
-    if b == b'U' {
-        return Class::Unclassified;
-    }
-    if b == b'C' {
-        return Class::Classified;
-    }
-    Class::Secret
 }
 
 fn designator_at(line: &[u8]) -> Designator
@@ -204,7 +190,7 @@ fn fields(line1: &[u8], line2: &[u8]) -> Record
 {
     Record {
         number: number_at(line1),
-        class: class_at(line1),
+        class: Class::of_letter(line1[7]),
         designator: designator_at(line1),
         year: year_at(line1),
         day: day_at(line1),

@@ -5,12 +5,12 @@ use native.Mathlib.Omega.{arith}
 use borrow.Author.Needs.{needs}
 use Rattle.record_numbers.specs.Numbers.{numbersOf}
 use Rattle.record_numbers.proofs.Signed.{held, held-plus}
-use Rattle.record_numbers.proofs.Small.{letter-small}
+use Rattle.record_numbers.proofs.Small.{class-byte}
 use Rattle.record_numbers.proofs.numbers_of.Statement.{statement}
 use Rattle.record_numbers.proofs.numbers_of.Tie as tie
 
 plus-requires-2 : tie.Need-plus-requires-2
-plus-requires-2 c κs = omega (arith, c .letter-of .ensures, letter-small (c .before .before .before .before .before .args .r .class))
+plus-requires-2 c κs = omega (arith, c .letter-of .ensures, class-byte (c .before .before .before .before .before .args .r .class))
 
 plus-requires-3 : tie.Need-plus-requires-3
 plus-requires-3 c κs = let p = c .before .before .before .before .before in omega (arith, ap (λ d. d .launch) (p .places-of .ensures))
@@ -51,7 +51,7 @@ returns c =
     let k = q .before .pre in
     λ i.
     held-plus _ _ (p .plus .ensures) (k .4) i
-    ∷ held-plus _ _ (p2 .plus2 .ensures ∙ ap pos (l .letter-of .ensures)) (omega (arith, letter-small (r .class))) i
+    ∷ held-plus _ _ (p2 .plus2 .ensures ∙ ap pos (l .letter-of .ensures)) (omega (arith, class-byte (r .class))) i
     ∷ held-plus _ _ (p3 .plus3 .ensures ∙ ap (λ d. pos (d .launch)) places) (k .0) i
     ∷ held-plus _ _ (p4 .plus4 .ensures ∙ ap (λ d. pos (d .a)) places) (k .1) i
     ∷ held-plus _ _ (p5 .plus5 .ensures ∙ ap (λ d. pos (d .b)) places) (k .2) i

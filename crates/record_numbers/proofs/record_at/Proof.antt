@@ -31,23 +31,23 @@ returns c =
     let w = k .before in
     let ns = now (w .before .args .fields) in
     λ i. record {
-      number = w2 .whole-at2 .ensures i;
-      class = (k .class-from .ensures ∙ ap classOf (w .whole-at .ensures)) i;
+      number = w2 .whole-at .ensures i;
+      class = (k .of-letter .ensures ∙ ap classOf (w .byte-at .ensures)) i;
       designator = d .designator-at .ensures i;
-      year = w3 .whole-at3 .ensures i;
-      day = w4 .whole-at4 .ensures i;
-      ndot = toZ-ofZ w64 (at ns 8) (record { sfits = ndot .t10 .given }) i;
+      year = w3 .whole-at2 .ensures i;
+      day = w4 .whole-at3 .ensures i;
+      ndot = toZ-ofZ w64 (at ns 8) (record { sfits = ndot .t11 .given }) i;
       nddot = n .scaled-at .ensures i;
       bstar = b .scaled-at2 .ensures i;
-      ephemeris = w5 .whole-at5 .ensures i;
-      element = w6 .whole-at6 .ensures i;
-      inclination = w7 .whole-at7 .ensures i;
-      node = w8 .whole-at8 .ensures i;
-      eccentricity = w9 .whole-at9 .ensures i;
-      perigee = w10 .whole-at10 .ensures i;
-      anomaly = w11 .whole-at11 .ensures i;
-      motion = w12 .whole-at12 .ensures i;
-      revolution = c .whole-at13 .ensures i;
+      ephemeris = w5 .whole-at4 .ensures i;
+      element = w6 .whole-at5 .ensures i;
+      inclination = w7 .whole-at6 .ensures i;
+      node = w8 .whole-at7 .ensures i;
+      eccentricity = w9 .whole-at8 .ensures i;
+      perigee = w10 .whole-at9 .ensures i;
+      anomaly = w11 .whole-at10 .ensures i;
+      motion = w12 .whole-at11 .ensures i;
+      revolution = c .whole-at12 .ensures i;
     }
 
 pub record-at-spec : {M : Type 1} → statement M

@@ -14,7 +14,7 @@ unfolding givenOf
 returns-2 c =
     let k = c .before in
     let w = k .before in
-    let e = sym (k .is-class .ensures ∙ ap isClass (w .whole-at .ensures)) ∙ not-true _ (c .if2 .taken) in
+    let e = sym (k .is-class .ensures ∙ ap isClass (w .byte-at .ensures)) ∙ not-true _ (c .if2 .taken) in
     simp (le-ltb _ _ (w .before .if1 .left), e)
 
 returns-3 : tie.Need-returns-3
@@ -22,7 +22,7 @@ unfolding givenOf
 returns-3 c =
     let k = c .before .before in
     let w = k .before in
-    let e = sym (k .is-class .ensures ∙ ap isClass (w .whole-at .ensures)) ∙ not-false _ (c .before .if2 .left) in
+    let e = sym (k .is-class .ensures ∙ ap isClass (w .byte-at .ensures)) ∙ not-false _ (c .before .if2 .left) in
     simp (le-ltb _ _ (w .before .if1 .left), e, c .record-at .ensures)
 
 pub record-of-spec : {M : Type 1} → statement M

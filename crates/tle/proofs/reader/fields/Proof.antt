@@ -6,37 +6,60 @@ use Rattle.tle.proofs.reader.fields.Statement.{statement}
 use Rattle.tle.proofs.reader.fields.Tie as tie
 
 motion-at-requires : tie.Need-motion-at-requires
-motion-at-requires c κs = c .before .before .before .before .before .before .before .before .before .before .before .before .before .before .before .before .before .pre .1
+motion-at-requires c κs =
+    let ndot = c .before .before .before .before .before .before .before .before .before in
+    let class = ndot .before .before .before .before in
+    class .before .before .before .before .before .pre .1
 
 field-at-requires-4 : tie.Need-field-at-requires-4
-field-at-requires-4 c κs = (omega (arith, c .before .before .before .before .before .before .before .before .before .before .before .before .before .before .before .before .before .before .pre .1), search needs)
+field-at-requires-4 c κs =
+    let ndot = c .before .before .before .before .before .before .before .before .before .before in
+    let class = ndot .before .before .before .before in
+    (omega (arith, class .before .before .before .before .before .pre .1), search needs)
 
 returns : tie.Need-returns
 unfolding fieldsOf
-returns c = λ j. record {
-  number = c .before .before .before .before .before .before .before .before .before .before .before .before .before .before .before .before .number-at .ensures j;
-  class = c .before .before .before .before .before .before .before .before .before .before .before .before .before .before .before .class-at .ensures j;
-  designator = c .before .before .before .before .before .before .before .before .before .before .before .before .before .before .designator-at .ensures j;
-  year = c .before .before .before .before .before .before .before .before .before .before .before .before .before .year-at .ensures j;
-  day = c .before .before .before .before .before .before .before .before .before .before .before .before .day-at .ensures j;
-  ndot = (ndot-held _ (c .before .before .before .before .before .before .before .before .before .before .before .ndot-at .ensures)) j;
-  nddot = c .before .before .before .before .before .before .before .before .before .before .scaled-at .ensures j;
-  bstar = c .before .before .before .before .before .before .before .before .before .scaled-at2 .ensures j;
-  ephemeris = c .before .before .before .before .before .before .before .before .field-at .ensures .0 j;
-  element = c .before .before .before .before .before .before .before .field-at2 .ensures .0 j;
-  inclination = c .before .before .before .before .before .before .degrees-at .ensures j;
-  node = c .before .before .before .before .before .degrees-at2 .ensures j;
-  eccentricity = c .before .before .before .before .field-at3 .ensures .0 j;
-  perigee = c .before .before .before .degrees-at3 .ensures j;
-  anomaly = c .before .before .degrees-at4 .ensures j;
-  motion = c .before .motion-at .ensures j;
-  revolution = c .field-at4 .ensures .0 j;
-}
+returns c =
+    let motion = c .before in
+    let anomaly = motion .before in
+    let perigee = anomaly .before in
+    let eccentricity = perigee .before in
+    let node = eccentricity .before in
+    let inclination = node .before in
+    let element = inclination .before in
+    let ephemeris = element .before in
+    let bstar = ephemeris .before in
+    let nddot = bstar .before in
+    let ndot = nddot .before in
+    let day = ndot .before in
+    let year = day .before in
+    let designator = year .before in
+    let class = designator .before in
+    let number = class .before .before in
+    λ j. record {
+      number = number .number-at .ensures j;
+      class = class .of-letter .ensures j;
+      designator = designator .designator-at .ensures j;
+      year = year .year-at .ensures j;
+      day = day .day-at .ensures j;
+      ndot = ndot-held _ (ndot .ndot-at .ensures) j;
+      nddot = nddot .scaled-at .ensures j;
+      bstar = bstar .scaled-at2 .ensures j;
+      ephemeris = ephemeris .field-at .ensures .0 j;
+      element = element .field-at2 .ensures .0 j;
+      inclination = inclination .degrees-at .ensures j;
+      node = node .degrees-at2 .ensures j;
+      eccentricity = eccentricity .field-at3 .ensures .0 j;
+      perigee = perigee .degrees-at3 .ensures j;
+      anomaly = anomaly .degrees-at4 .ensures j;
+      motion = motion .motion-at .ensures j;
+      revolution = c .field-at4 .ensures .0 j;
+    }
 
 pub fields-spec : {M : Type 1} → statement M
 fields-spec =
     tie.close
     (tie.spec
-    (λ c κs. search needs) (λ c κs. search needs) (λ c κs. search needs) (λ c κs. search needs) (λ c κs. search needs) (λ c κs. search needs)
+    (λ c κs. search needs) (λ c. search needs) (λ c κs. search needs) (λ c κs. search needs) (λ c κs. search needs) (λ c κs. search needs) (λ c κs. search needs)
     (λ c κs. search needs) (λ c κs. search needs) (λ c κs. search needs) (λ c κs. search needs) (λ c κs. search needs) (λ c κs. search needs)
     (λ c κs. search needs) (λ c κs. search needs) (λ c κs. search needs) motion-at-requires field-at-requires-4 returns)

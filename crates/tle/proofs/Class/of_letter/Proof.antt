@@ -1,7 +1,7 @@
 use borrow.Author.Tests.{eq-eqb, ne-eqb}
 use Rattle.tle.specs.Read.{classOf}
-use Rattle.record_numbers.proofs.class_from.Statement.{statement}
-use Rattle.record_numbers.proofs.class_from.Tie as tie
+use Rattle.tle.proofs.Class.of_letter.Statement.{statement}
+use Rattle.tle.proofs.Class.of_letter.Tie as tie
 
 returns : tie.Need-returns
 unfolding classOf
@@ -15,5 +15,5 @@ returns-3 : tie.Need-returns-3
 unfolding classOf
 returns-3 c = simp (ne-eqb _ _ (c .before .if1 .left), ne-eqb _ _ (c .if2 .left))
 
-pub class-from-spec : {M : Type 1} → statement M
-class-from-spec = tie.close (tie.spec returns returns-2 returns-3)
+pub of-letter-spec : {M : Type 1} → statement M
+of-letter-spec = tie.close (tie.spec returns returns-2 returns-3)
