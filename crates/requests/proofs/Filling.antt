@@ -221,13 +221,16 @@ second-of x k p t u e = ap (λ (z : AskedTwo). z .second) e ∙ ap (λ (z : Aske
 
 -- two rows more
 pub filling-two : (ts : List ℤ) (a₀ : List ℕ) (b₀ : List Float) (c₀ : List ℕ) (k : Model) (p₀ : Place) (a : List ℕ) (b : List Float) (c : List ℕ) (p : Place) (n i : ℕ) (d t u : ℤ)
-    (a′ : List ℕ) (b′ : List Float) (c′ : List ℕ) (a″ : List ℕ) (b″ : List Float) (c″ : List ℕ) (x : AskedTwo)
+    (a″ : List ℕ) (b″ : List Float) (c″ : List ℕ) (x : AskedTwo)
     → Filling ts a₀ b₀ c₀ k p₀ a b c p n i → i + 1 < length ts → x ≡ askedTwo k p t u → t ≡ getD ts i d → u ≡ getD ts (i + 1) d
-    → (a′ ≡ set a i (x .first .row .refusal)) × ((b′ ≡ sets b (6 * i) (stateOf (x .first .row))) × (c′ ≡ set c i (x .first .row .rounds)))
-    → (a″ ≡ set a′ (i + 1) (x .second .row .refusal)) × ((b″ ≡ sets b′ (6 * (i + 1)) (stateOf (x .second .row))) × (c″ ≡ set c′ (i + 1) (x .second .row .rounds)))
+    → (a″ ≡ set (set a i (x .first .row .refusal)) (i + 1) (x .second .row .refusal))
+    × ((b″ ≡ sets (sets b (6 * i) (stateOf (x .first .row))) (6 * (i + 1)) (stateOf (x .second .row))) × (c″ ≡ set (set c i (x .first .row .rounds)) (i + 1) (x .second .row .rounds)))
     → Filling ts a₀ b₀ c₀ k p₀ a″ b″ c″ (x .second .place) (n + x .first .strides .0 + x .second .strides .0) (i + 2)
-filling-two ts a₀ b₀ c₀ k p₀ a b c p n i d t u a′ b′ c′ a″ b″ c″ x f h hx ht hu e g =
-    let one = filling-put ts a₀ b₀ c₀ k p₀ a b c p n i d t a′ b′ c′ (x .first) f (omega arith) (first-of x k p t u hx) ht e in
+filling-two ts a₀ b₀ c₀ k p₀ a b c p n i d t u a″ b″ c″ x f h hx ht hu g =
+    let a′ = set a i (x .first .row .refusal) in
+    let b′ = sets b (6 * i) (stateOf (x .first .row)) in
+    let c′ = set c i (x .first .row .rounds) in
+    let one = filling-put ts a₀ b₀ c₀ k p₀ a b c p n i d t a′ b′ c′ (x .first) f (omega arith) (first-of x k p t u hx) ht (refl, (refl, refl)) in
     let two = filling-put ts a₀ b₀ c₀ k p₀ a′ b′ c′ (x .first .place) (n + x .first .strides .0) (i + 1) d u a″ b″ c″ (x .second) one h (second-of x k p t u hx) hu g in
     let j : i + 1 + 1 ≡ i + 2 = omega arith in
     subst (λ (z : ℕ). Filling ts a₀ b₀ c₀ k p₀ a″ b″ c″ (x .second .place) (n + x .first .strides .0 + x .second .strides .0) z) j two

@@ -172,6 +172,23 @@ fn put_row(refusals: &mut [u8], states: &mut [f64], rounds: &mut [u8], i: usize,
     rounds[i] = row.rounds;
 }
 
+// Two rows, one after the other.
+fn put_two(refusals: &mut [u8], states: &mut [f64], rounds: &mut [u8], i: usize, two: AskedTwo)
+    requires { ⌜ i + 1 < length (now refusals) ⌝ }
+    requires { ⌜ 6 * (i + 1) + 6 ≤ length (now states) ⌝ }
+    requires { ⌜ i + 1 < length (now rounds) ⌝ }
+    ensures { λ _. ⌜ now (refusals .exit) ≡ set (set (now (refusals .entry)) i (two .first .row .refusal)) (i + 1) (two .second .row .refusal) ⌝ }
+    ensures { λ _. ⌜ now (states .exit) ≡ sets (sets (now (states .entry)) (6 * i) (L.stateOf (two .first .row))) (6 * (i + 1)) (L.stateOf (two .second .row)) ⌝ }
+    ensures { λ _. ⌜ now (rounds .exit) ≡ set (set (now (rounds .entry)) i (two .first .row .rounds)) (i + 1) (two .second .row .rounds) ⌝ }
+{
+    let first = two.first;
+    let second = two.second;
+    let row = first.row;
+    let next = second.row;
+    put_row(refusals, states, rounds, i, row);
+    put_row(refusals, states, rounds, i + 1, next);
+}
+
 // A row for each time, in rooms that are long enough; the times are taken two by two. The model does
 // not change: the loop carries the saved position alone.
 fn fill(
@@ -195,15 +212,10 @@ fn fill(
         let t = times[i];
         let u = times[i + 1];
         let two = ask_two(model, p, Microseconds(t), Microseconds(u));
-        let first = two.first;
-        let second = two.second;
-        let row = first.row;
-        let next = second.row;
-        put_row(refusals, states, rounds, i, row);
-        put_row(refusals, states, rounds, i + 1, next);
-        total += first.strides.0;
-        total += second.strides.0;
-        p = second.place;
+        put_two(refusals, states, rounds, i, two);
+        total += two.first.strides.0;
+        total += two.second.strides.0;
+        p = two.second.place;
         i += 2;
     }
     if i < times.len() {

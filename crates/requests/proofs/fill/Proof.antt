@@ -17,35 +17,33 @@ abbrev μ-loop : tie.MeasureT-loop
 
 add-total : tie.Need-add-total Inv-loop μ-loop
 add-total c =
-    let a = c .before .before .before .before .before .before .before .before .before .before .before .before .before .before .before .before .before .before .before .before .before .before .before .before .before in
+    let a = c .before .before .before .before .before .before .before .before .before .before .before in
     record { fits = omega (arith, few-of _ _ _ _ (first-of _ _ _ _ _ (a .ask-two .ensures))) }
 
 add-total-2 : tie.Need-add-total-2 Inv-loop μ-loop
 add-total-2 c =
-    let a = c .before .before .before .before .before .before .before .before .before .before .before .before .before .before .before .before .before .before .before .before .before .before .before .before .before .before in
+    let a = c .before .before .before .before .before .before .before .before .before .before .before .before in
     record { fits = omega (arith, few-of _ _ _ _ (first-of _ _ _ _ _ (a .ask-two .ensures)), few-of _ _ _ _ (second-of _ _ _ _ _ (a .ask-two .ensures))) }
 
 add-i : tie.Need-add-i Inv-loop μ-loop
 add-i c =
-    let t = c .before .before .before .before .before .before .before .before .before .before .before .before .before .before .before .before .before .before .before .before .before .before .before .before .before .before .before .before .before .before in
-    let f = t .before .loop .inv in
+    let f = c .before .before .before .before .before .before .before .before .before .before .before .before .before .before .before .before .before .loop .inv in
     record { fits = omega (arith, f .upto, f .most) }
 
 loop-less : tie.Need-loop-less Inv-loop μ-loop
 loop-less c =
-    let t = c .before .before .before .before .before .before .before .before .before .before .before .before .before .before .before .before .before .before .before .before .before .before .before .before .before .before .before .before .before .before in
+    let t = c .before .before .before .before .before .before .before .before .before .before .before .before .before .before .before .before in
     let f = t .before .loop .inv in
     omega (arith, f .upto, f .most, t .loop-test)
 
 loop-again : tie.Need-loop-again Inv-loop μ-loop
 loop-again c =
     let w = c .before .before .before .before .before .before .before .before .before in
-    let v = w .before .before .before .before .before .before .before .before .before .before in
-    let a = v .before .before .before .before .before .before .before .before in
+    let a = w .before .before .before .before in
     let u = a .before in
     let t = u .before in
-    filling-two _ _ _ _ _ _ _ _ _ _ _ _ _ _ _ _ _ _ _ _ _ _ (t .before .before .loop .inv) (omega arith) (a .ask-two .ensures)
-    (toZ-ofZ w64 _ (record { sfits = t .t .given })) (toZ-ofZ w64 _ (record { sfits = u .u .given })) (v .put-row .ensures) (w .put-row2 .ensures)
+    filling-two _ _ _ _ _ _ _ _ _ _ _ _ _ _ _ _ _ _ _ (t .before .before .loop .inv) (omega arith) (a .ask-two .ensures)
+    (toZ-ofZ w64 _ (record { sfits = t .t .given })) (toZ-ofZ w64 _ (record { sfits = u .u .given })) (w .put-two .ensures)
 
 add-total-3 : tie.Need-add-total-3 Inv-loop μ-loop
 add-total-3 c = record { fits = omega (arith, few-of _ _ _ _ (c .before .before .before .before .before .before .before .before .before .before .before .before .ask .ensures)) }
@@ -56,7 +54,7 @@ returns c =
     let a = w .before .before .before .before .before in
     let t = a .before in
     filling-done
-    (filling-put _ _ _ _ _ _ _ _ _ _ _ _ _ _ _ _ _ _ (t .before .before .before .loop .inv) (omega arith) (a .ask .ensures) (toZ-ofZ w64 _ (record { sfits = t .t2 .given })) (w .put-row3 .ensures))
+    (filling-put _ _ _ _ _ _ _ _ _ _ _ _ _ _ _ _ _ _ (t .before .before .before .loop .inv) (omega arith) (a .ask .ensures) (toZ-ofZ w64 _ (record { sfits = t .t2 .given })) (w .put-row .ensures))
     (omega arith)
 
 returns-2 : tie.Need-returns-2 Inv-loop μ-loop
@@ -77,8 +75,6 @@ fill-spec =
     (λ c. omega arith)
     (λ c. omega arith)
     (λ c κs. tt)
-    (λ c κs. (omega arith, (omega arith, omega arith)))
-    (λ c. omega arith)
     (λ c κs. (omega arith, (omega arith, omega arith)))
     add-total
     add-total-2
