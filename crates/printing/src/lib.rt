@@ -1,11 +1,10 @@
 // What the programs answer, printed line by line on standard output: a `row` line for each row, or
-// `refused` and the number, and a `strides` line. As in streams, a failure stays marked.
+// `refused` and the number, and a `strides` line. An answer is the number that lent_requests gives, with
+// the rooms that it filled. As in streams, a failure stays marked.
 ghost use mathlib.Core.Path.{_≡_};
 ghost use mathlib.Core.Bool.{true};
 ghost use Prim.Native.Nat.{_≤_, _<_};
-use instant::Strides;
 use row_line::put_row;
-use sgp4::Row;
 use streams::print;
 use text::put_line;
 
@@ -25,28 +24,37 @@ pub fn print_refused(failed: &mut bool, n: u64)
     print_number(failed, b"refused ", n);
 }
 
-fn print_strides(failed: &mut bool, strides: Strides)
+// The parts of an answer's number, as specs/Answer of lent_requests puts them together.
+fn refusal_of(answer: u64) -> u8 {
+    (answer % 256) as u8
+}
+
+fn rounds_of(answer: u64) -> u8 {
+    (answer / 256 % 256) as u8
+}
+
+fn print_strides(failed: &mut bool, answer: u64)
     ensures { λ _. ⌜ (now (failed .entry) ≡ true → now (failed .exit) ≡ true) ⌝ }
 {
-    print_number(failed, b"strides ", strides.0 as u64);
+    print_number(failed, b"strides ", answer / 4294967296);
 }
 
 // A row is 114 bytes at most: refusal and rounds have two digits.
-fn print_row(failed: &mut bool, r: Row)
+fn print_row(failed: &mut bool, refusal: u8, state: [f64; 6], rounds: u8)
     ensures { λ _. ⌜ (now (failed .entry) ≡ true → now (failed .exit) ≡ true) ⌝ }
 {
     let mut out = [0u8; 128];
     let size = put_row(
         &mut out,
         0,
-        r.refusal,
-        r.x,
-        r.y,
-        r.z,
-        r.vx,
-        r.vy,
-        r.vz,
-        r.rounds,
+        refusal,
+        state[0],
+        state[1],
+        state[2],
+        state[3],
+        state[4],
+        state[5],
+        rounds,
     );
     if size <= 128 {
         print(failed, &out[0..size]);
@@ -64,19 +72,15 @@ fn print_row_at(
     ensures { λ _. ⌜ (now (failed .entry) ≡ true → now (failed .exit) ≡ true) ⌝ }
 {
     let at = 6 * i;
-    print_row(
-        failed,
-        Row {
-            refusal: refusals[i],
-            x: states[at],
-            y: states[at + 1],
-            z: states[at + 2],
-            vx: states[at + 3],
-            vy: states[at + 4],
-            vz: states[at + 5],
-            rounds: rounds[i],
-        },
-    );
+    let state = [
+        states[at],
+        states[at + 1],
+        states[at + 2],
+        states[at + 3],
+        states[at + 4],
+        states[at + 5],
+    ];
+    print_row(failed, refusals[i], state, rounds[i]);
 }
 
 fn print_rows(
@@ -113,20 +117,19 @@ fn print_rows_or_refusal(
     }
 }
 
-// The answer to one time.
-pub fn print_answer(failed: &mut bool, row: Row, strides: Strides)
+// The answer to one time, and the state that it put.
+pub fn print_answer(failed: &mut bool, answer: u64, state: [f64; 6])
     ensures { λ _. ⌜ (now (failed .entry) ≡ true → now (failed .exit) ≡ true) ⌝ }
 {
-    print_row(failed, row);
-    print_strides(failed, strides);
+    print_row(failed, refusal_of(answer), state, rounds_of(answer));
+    print_strides(failed, answer);
 }
 
-// The answer to a list, from the rooms that it was answered in. A list refused whole has no rows, and
-// none longer than the rooms is answered.
+// The answer to a list of n times, from the rooms that it was answered in. A list refused whole has no
+// rows, and none longer than the rooms is answered.
 pub fn print_list(
     failed: &mut bool,
-    refusal: u8,
-    strides: Strides,
+    answer: u64,
     n: usize,
     refusals: &[u8; 1024],
     states: &[f64; 6144],
@@ -134,8 +137,8 @@ pub fn print_list(
 )
     ensures { λ _. ⌜ (now (failed .entry) ≡ true → now (failed .exit) ≡ true) ⌝ }
 {
-    print_rows_or_refusal(failed, refusal, n, refusals, states, rounds);
-    print_strides(failed, strides);
+    print_rows_or_refusal(failed, refusal_of(answer), n, refusals, states, rounds);
+    print_strides(failed, answer);
 }
 
 // More times than a line may have are more than a list may have.
@@ -143,5 +146,5 @@ pub fn refuse_list(failed: &mut bool)
     ensures { λ _. ⌜ (now (failed .entry) ≡ true → now (failed .exit) ≡ true) ⌝ }
 {
     print_refused(failed, 18);
-    print_strides(failed, Strides(0));
+    print_strides(failed, 18);
 }

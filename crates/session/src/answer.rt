@@ -1,51 +1,26 @@
 // A request's line answered: a `row` line for each row, or `refused` and the number for a list refused
 // whole, and a `strides` line; `malformed` for a line that is no request.
 ghost use Prim.Native.Nat.{_≤_};
-use instant::Strides;
-use lent_requests::request_held;
-use lent_requests::request_list_held;
 use printing::print_answer;
 use printing::print_list;
 use printing::refuse_list;
 use request_line::Request;
 use request_line::read_request;
-use sgp4::Row;
+use saddlekerf::saddlekerf_request;
+use saddlekerf::saddlekerf_request_list;
 use streams::print;
-
-// The parts of an answer's number, as specs/Answer of lent_requests puts them together.
-fn refusal_of(answer: u64) -> u8 {
-    (answer % 256) as u8
-}
-
-fn rounds_of(answer: u64) -> u8 {
-    (answer / 256 % 256) as u8
-}
-
-fn strides_of(answer: u64) -> Strides {
-    Strides((answer / 4294967296) as u32)
-}
 
 fn answer_one(failed: &mut bool, numbers: &mut [f64], marks: &mut [u32], time: i64) {
     let mut state = [0f64; 6];
-    let answer = request_held(numbers, marks, time, &mut state);
-    let row = Row {
-        refusal: refusal_of(answer),
-        x: state[0],
-        y: state[1],
-        z: state[2],
-        vx: state[3],
-        vy: state[4],
-        vz: state[5],
-        rounds: rounds_of(answer),
-    };
-    print_answer(failed, row, strides_of(answer));
+    let answer = saddlekerf_request(numbers, marks, time, &mut state);
+    print_answer(failed, answer, state);
 }
 
 fn answer_list(failed: &mut bool, numbers: &mut [f64], marks: &mut [u32], times: &[i64]) {
     let mut refusals = [0u8; 1024];
     let mut states = [0f64; 6144];
     let mut rounds = [0u8; 1024];
-    let answer = request_list_held(
+    let answer = saddlekerf_request_list(
         numbers,
         marks,
         times,
@@ -53,15 +28,7 @@ fn answer_list(failed: &mut bool, numbers: &mut [f64], marks: &mut [u32], times:
         &mut states,
         &mut rounds,
     );
-    print_list(
-        failed,
-        refusal_of(answer),
-        strides_of(answer),
-        times.len(),
-        &refusals,
-        &states,
-        &rounds,
-    );
+    print_list(failed, answer, times.len(), &refusals, &states, &rounds);
 }
 
 // No list that is read is longer than the room for its times.
