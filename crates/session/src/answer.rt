@@ -10,13 +10,13 @@ use saddlekerf::saddlekerf_request;
 use saddlekerf::saddlekerf_request_list;
 use streams::print;
 
-fn answer_one(failed: &mut bool, numbers: &mut [f64], marks: &mut [u32], time: i64) {
+fn answer_one(failed: &mut bool, numbers: &mut [f64; 83], marks: &mut [u32; 4], time: i64) {
     let mut state = [0f64; 6];
     let answer = saddlekerf_request(numbers, marks, time, &mut state);
     print_answer(failed, answer, state);
 }
 
-fn answer_list(failed: &mut bool, numbers: &mut [f64], marks: &mut [u32], times: &[i64]) {
+fn answer_list(failed: &mut bool, numbers: &mut [f64; 83], marks: &mut [u32; 4], times: &[i64]) {
     let mut refusals = [0u8; 1024];
     let mut states = [0f64; 6144];
     let mut rounds = [0u8; 1024];
@@ -41,7 +41,12 @@ fn listed(n: usize) -> usize
     1100
 }
 
-pub(crate) fn answer(failed: &mut bool, numbers: &mut [f64], marks: &mut [u32], line: &[u8]) {
+pub(crate) fn answer(
+    failed: &mut bool,
+    numbers: &mut [f64; 83],
+    marks: &mut [u32; 4],
+    line: &[u8],
+) {
     let mut times = [0i64; 1100];
     match read_request(line, &mut times) {
         Request::One => answer_one(failed, numbers, marks, times[0]),

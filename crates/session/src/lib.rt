@@ -25,8 +25,8 @@ fn open(
     failed: &mut bool,
     line1: &[u8],
     line2: &[u8],
-    numbers: &mut [f64],
-    marks: &mut [u32],
+    numbers: &mut [f64; 83],
+    marks: &mut [u32; 4],
 ) -> Stage {
     let answer = saddlekerf_open(line1, line2, numbers, marks);
     if answer == 0 {
@@ -43,8 +43,8 @@ fn open_kept(
     first: &[u8],
     size: usize,
     line: &[u8],
-    numbers: &mut [f64],
-    marks: &mut [u32],
+    numbers: &mut [f64; 83],
+    marks: &mut [u32; 4],
 ) -> Stage {
     let n = whole_in(size, first);
     open(failed, &first[..n], line, numbers, marks)
@@ -62,15 +62,20 @@ fn stage_of(many: bool, stage: Stage, line: &[u8]) -> Stage {
     stage
 }
 
+// The line of so many bytes in its room. One that is longer than the room is neither a request nor one of a
+// pair, as an empty one.
 fn take_line(
     failed: &mut bool,
     many: bool,
     stage: Stage,
-    first: &mut [u8],
-    line: &[u8],
-    numbers: &mut [f64],
-    marks: &mut [u32],
+    first: &mut [u8; 70],
+    room: &[u8],
+    size: usize,
+    numbers: &mut [f64; 83],
+    marks: &mut [u32; 4],
 ) -> Stage {
+    let n = whole_in(size, room);
+    let line = &room[..n];
     let stage = stage_of(many, stage, line);
     match stage {
         Stage::First => Stage::Second(put_bytes(first, 0, line)),
@@ -93,17 +98,16 @@ fn wants_line(stage: Stage) -> bool {
     }
 }
 
-// A line longer than its room is neither a request nor one of a pair, as an empty one. A proved loop has
-// to end, and nothing says that the input does: so it counts its turns down, from a number that no run
-// uses up.
+// A proved loop has to end, and nothing says that the input does: so it counts its turns down, from a
+// number that no run uses up.
 fn run(
     failed: &mut bool,
     many: bool,
-    numbers: &mut [f64],
-    marks: &mut [u32],
-    first: &mut [u8],
-    buffer: &mut [u8],
-    line: &mut [u8],
+    numbers: &mut [f64; 83],
+    marks: &mut [u32; 4],
+    first: &mut [u8; 70],
+    buffer: &mut [u8; 4096],
+    line: &mut [u8; 65536],
 ) {
     let mut input = Input::start();
     let mut stage = Stage::First;
@@ -113,8 +117,7 @@ fn run(
         if !(next.found | wants_line(stage)) {
             return;
         }
-        let n = whole_in(next.size, line);
-        stage = take_line(failed, many, stage, first, &line[..n], numbers, marks);
+        stage = take_line(failed, many, stage, first, line, next.size, numbers, marks);
         input = next.input;
         turns -= 1;
     }

@@ -10,126 +10,42 @@ ghost use Prim.Native.Nat.{_≤_};
 ghost use lib.ListN.{length};
 use comparison::Tally;
 use comparison::difference;
-use comparison::is_off;
-use comparison::micrometres;
-use comparison::put_tally;
-use comparison::put_timed;
 use lent_requests::request_held;
-use opening::opening::PairOpening;
-use opening::opening::open_pair;
-use printing::print_refused;
-use refusal_line::put_refusal;
+use line_input::whole_in;
+use printing::print_compared;
+use printing::print_satellite;
+use printing::print_tally;
+use printing::print_timed;
+use printing::print_unopened;
 use request_line::Request;
 use request_line::read_request;
-use storing::store;
+use saddlekerf::saddlekerf_open;
 use streams::print;
+use text::put_bytes;
 
-// What the lines so far came to: nothing, the first line of a pair (from where to where it stands), a
-// satellite, or a pair that was refused. The satellite lies in `numbers` and `marks`, as a caller in C
-// keeps it.
+// What the lines so far came to: nothing, the first line of a pair (of so many bytes, kept in a room), a
+// satellite with its tally, or a pair that was refused. The satellite lies in `numbers` and `marks`, as a
+// caller in C keeps it.
 enum Stage {
     Nothing,
-    First(usize, usize),
-    Open,
-    Refused,
-}
-
-struct Progress {
-    stage: Stage,
-    tally: Tally,
-}
-
-fn print_timed(failed: &mut bool, word: &[u8], time: i64, label: &[u8], n: u64) {
-    let mut out = [0u8; 128];
-    let size = put_timed(&mut out, 0, word, time, label, n);
-    if size <= 128 {
-        print(failed, &out[0..size]);
-    }
-}
-
-fn print_tally(failed: &mut bool, tally: Tally) {
-    let mut out = [0u8; 256];
-    let size = put_tally(&mut out, 0, tally);
-    if size <= 256 {
-        print(failed, &out[0..size]);
-    }
-}
-
-// The catalogue number's five columns as they stand, in a refused line too.
-fn print_satellite(failed: &mut bool, line: &[u8]) {
-    if line.len() < 7 {
-        return;
-    }
-    print(failed, b"satellite ");
-    print(failed, &line[2..7]);
-    print(failed, b"\n");
-}
-
-fn print_unread(failed: &mut bool, refusal: tle::Refusal) {
-    let mut out = [0u8; 64];
-    let size = put_refusal(&mut out, 0, refusal);
-    if size <= 64 {
-        print(failed, &out[0..size]);
-    }
+    First(usize),
+    Open(Tally),
+    Refused(Tally),
 }
 
 fn open(
     failed: &mut bool,
     line1: &[u8],
     line2: &[u8],
-    numbers: &mut [f64],
-    marks: &mut [u32],
+    numbers: &mut [f64; 83],
+    marks: &mut [u32; 4],
 ) -> Stage {
-    match open_pair(line1, line2) {
-        PairOpening::Opened(satellite) => {
-            let _ = store(satellite, numbers, marks);
-            Stage::Open
-        }
-        PairOpening::Unread(why) => {
-            print_unread(failed, why);
-            Stage::Refused
-        }
-        PairOpening::Refused(why) => {
-            print_refused(failed, why.number());
-            Stage::Refused
-        }
+    let answer = saddlekerf_open(line1, line2, numbers, marks);
+    if answer == 0 {
+        return Stage::Open(Tally::start());
     }
-}
-
-fn print_off(failed: &mut bool, time: i64, km: f64) {
-    if is_off(km) {
-        print_timed(
-            failed,
-            b"at ",
-            time,
-            b" off by micrometres ",
-            micrometres(km),
-        );
-    }
-}
-
-// A published row's time and position are the four numbers of its line.
-fn compare(
-    failed: &mut bool,
-    tally: Tally,
-    refusal: u64,
-    state: [f64; 6],
-    published: [i64; 4],
-) -> Tally {
-    if refusal > 0 {
-        print_timed(failed, b"at ", published[0], b" refused ", refusal);
-        return tally.with_refused();
-    }
-    let km = difference(
-        state[0],
-        state[1],
-        state[2],
-        published[1],
-        published[2],
-        published[3],
-    );
-    print_off(failed, published[0], km);
-    tally.with_compared(km)
+    print_unopened(failed, line1, line2, answer % 256);
+    Stage::Refused(Tally::start())
 }
 
 // What a line after a pair asks: a published row, a time at which the published program stopped, or
@@ -154,44 +70,34 @@ fn asked_by(request: Request) -> Asked {
     }
 }
 
-fn print_not_read(failed: &mut bool) {
-    print(failed, b"a line is not read\n");
-}
-
 // A row that is answered has the refusal number 0.
-fn judge(
-    failed: &mut bool,
-    asked: Asked,
-    tally: Tally,
-    refusal: u64,
-    state: [f64; 6],
-    published: [i64; 4],
-) -> Tally {
+fn judge(failed: &mut bool, asked: Asked, tally: Tally, time: i64, refusal: u64, km: f64) -> Tally {
     match asked {
-        Asked::Row => compare(failed, tally, refusal, state, published),
+        Asked::Row => {
+            print_compared(failed, time, refusal, km);
+            if refusal > 0 {
+                return tally.with_refused();
+            }
+            tally.with_compared(km)
+        }
         Asked::Stop => {
-            print_timed(
-                failed,
-                b"published stop at ",
-                published[0],
-                b" refused ",
-                refusal,
-            );
+            print_timed(failed, b"published stop at ", time, b" refused ", refusal);
             tally
         }
         Asked::Nothing => {
-            print_not_read(failed);
+            print(failed, b"a line is not read\n");
             tally
         }
     }
 }
 
 // A line that cannot be read asks a time too, and its row is passed over: no later row depends on it.
-// The answer's last byte is the refusal's number.
+// A published row's time and position are the four numbers of its line; the answer's last byte is the
+// refusal's number.
 fn ask(
     failed: &mut bool,
-    numbers: &mut [f64],
-    marks: &mut [u32],
+    numbers: &mut [f64; 83],
+    marks: &mut [u32; 4],
     tally: Tally,
     line: &[u8],
 ) -> Tally {
@@ -199,7 +105,15 @@ fn ask(
     let asked = asked_by(read_request(line, &mut published));
     let mut state = [0f64; 6];
     let answer = request_held(numbers, marks, published[0], &mut state);
-    judge(failed, asked, tally, answer % 256, state, published)
+    let km = difference(
+        state[0],
+        state[1],
+        state[2],
+        published[1],
+        published[2],
+        published[3],
+    );
+    judge(failed, asked, tally, published[0], answer % 256, km)
 }
 
 // Every published row of a refused pair counts as refused.
@@ -209,46 +123,30 @@ fn refused_with_pair(failed: &mut bool, tally: Tally, line: &[u8]) -> Tally {
         Asked::Row => tally.with_refused(),
         Asked::Stop => tally,
         Asked::Nothing => {
-            print_not_read(failed);
+            print(failed, b"a line is not read\n");
             tally
         }
     }
 }
 
-fn at_most(n: usize, most: usize) -> usize
-    ensures { λ r. ⌜ r ≤ most ⌝ }
-{
-    if n <= most {
-        return n;
-    }
-    most
-}
-
-// The first line stands where it was found, within the input.
 fn second_line(
     failed: &mut bool,
-    numbers: &mut [f64],
-    marks: &mut [u32],
-    input: &[u8],
-    from: usize,
-    to: usize,
+    numbers: &mut [f64; 83],
+    marks: &mut [u32; 4],
+    first: &[u8],
+    size: usize,
     line: &[u8],
-) -> Progress {
-    let tally = Tally::start();
-    let to = at_most(to, input.len());
-    let from = at_most(from, to);
-    let stage = open(failed, &input[from..to], line, numbers, marks);
-    Progress { stage, tally }
+) -> Stage {
+    let n = whole_in(size, first);
+    open(failed, &first[..n], line, numbers, marks)
 }
 
-fn end_satellite(failed: &mut bool, progress: Progress) {
-    let stage = progress.stage;
-    let tally = progress.tally;
+fn end_satellite(failed: &mut bool, stage: Stage) {
     match stage {
         Stage::Nothing => {},
-        Stage::First(_, _) => print(failed, b"a pair has no second line\n"),
-        Stage::Open => print_tally(failed, tally),
-        Stage::Refused => print_tally(failed, tally),
+        Stage::First(_) => print(failed, b"a pair has no second line\n"),
+        Stage::Open(tally) => print_tally(failed, tally),
+        Stage::Refused(tally) => print_tally(failed, tally),
     }
 }
 
@@ -259,72 +157,38 @@ fn begins(line: &[u8], byte: u8) -> bool {
     line[0] == byte
 }
 
-fn within_satellite(
-    failed: &mut bool,
-    numbers: &mut [f64],
-    marks: &mut [u32],
-    progress: Progress,
-    input: &[u8],
-    line: &[u8],
-) -> Progress {
-    let stage = progress.stage;
-    let tally = progress.tally;
-    match stage {
-        Stage::Nothing => {
-            print_not_read(failed);
-            progress
-        }
-        Stage::First(from, to) => second_line(failed, numbers, marks, input, from, to, line),
-        Stage::Open => {
-            let tally = ask(failed, numbers, marks, tally, line);
-            Progress { stage, tally }
-        }
-        Stage::Refused => {
-            let tally = refused_with_pair(failed, tally, line);
-            Progress { stage, tally }
-        }
-    }
-}
-
 // A line that ends what belongs to the satellite before it: a comment, or the first of a pair.
-fn first_line(
-    failed: &mut bool,
-    progress: Progress,
-    line: &[u8],
-    from: usize,
-    to: usize,
-) -> Progress {
-    end_satellite(failed, progress);
-    let tally = Tally::start();
+fn first_line(failed: &mut bool, first: &mut [u8; 70], stage: Stage, line: &[u8]) -> Stage {
+    end_satellite(failed, stage);
     if begins(line, b'#') {
         print(failed, line);
         print(failed, b"\n");
-        return Progress {
-            stage: Stage::Nothing,
-            tally,
-        };
+        return Stage::Nothing;
     }
     print_satellite(failed, line);
-    Progress {
-        stage: Stage::First(from, to),
-        tally,
-    }
+    Stage::First(put_bytes(first, 0, line))
 }
 
 fn next_line(
     failed: &mut bool,
-    numbers: &mut [f64],
-    marks: &mut [u32],
-    progress: Progress,
-    input: &[u8],
+    numbers: &mut [f64; 83],
+    marks: &mut [u32; 4],
+    first: &mut [u8; 70],
+    stage: Stage,
     line: &[u8],
-    from: usize,
-    to: usize,
-) -> Progress {
+) -> Stage {
     if begins(line, b'1') | begins(line, b'#') {
-        return first_line(failed, progress, line, from, to);
+        return first_line(failed, first, stage, line);
     }
-    within_satellite(failed, numbers, marks, progress, input, line)
+    match stage {
+        Stage::Nothing => {
+            print(failed, b"a line is not read\n");
+            stage
+        }
+        Stage::First(size) => second_line(failed, numbers, marks, first, size, line),
+        Stage::Open(tally) => Stage::Open(ask(failed, numbers, marks, tally, line)),
+        Stage::Refused(tally) => Stage::Refused(refused_with_pair(failed, tally, line)),
+    }
 }
 
 // Where the line that begins at an index ends.
@@ -342,20 +206,21 @@ fn line_end(input: &[u8], from: usize) -> usize
     i
 }
 
-fn verify(failed: &mut bool, numbers: &mut [f64], marks: &mut [u32], input: &[u8]) {
-    let tally = Tally::start();
-    let mut progress = Progress {
-        stage: Stage::Nothing,
-        tally,
-    };
+fn verify(
+    failed: &mut bool,
+    numbers: &mut [f64; 83],
+    marks: &mut [u32; 4],
+    first: &mut [u8; 70],
+    input: &[u8],
+) {
+    let mut stage = Stage::Nothing;
     let mut at = 0;
     while at < input.len() {
         let end = line_end(input, at);
-        let line = &input[at..end];
-        progress = next_line(failed, numbers, marks, progress, input, line, at, end);
+        stage = next_line(failed, numbers, marks, first, stage, &input[at..end]);
         at = end + 1;
     }
-    end_satellite(failed, progress);
+    end_satellite(failed, stage);
 }
 
 fn main() {
@@ -368,5 +233,12 @@ fn main() {
     }
     let mut numbers = [0f64; 83];
     let mut marks = [0u32; 4];
-    verify(&mut failed, &mut numbers, &mut marks, &space[..n]);
+    let mut first = [0u8; 70];
+    verify(
+        &mut failed,
+        &mut numbers,
+        &mut marks,
+        &mut first,
+        &space[..n],
+    );
 }
