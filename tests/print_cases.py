@@ -1,8 +1,9 @@
 #!/usr/bin/env python3
 """Inputs of the program that prints a pair, and what it has to print of each.
 
-Written from document 01 ("One pair, printed", "The two lines") and from nothing
-else; which pairs are refused, and how, is the reader's of tle_pairs.py.
+Written from document 01 ("One pair, printed", "The two lines"), from wish 1 of
+document 02 and from nothing else; which pairs are refused, and how, and what a
+catalogue number with a letter is, are the reader's of tle_pairs.py.
 
   print_cases.py --write INPUT EXPECTED
       writes each input as one line, `|` for a newline and `~` for a carriage
@@ -16,7 +17,7 @@ import sys
 from pathlib import Path
 
 sys.dont_write_bytecode = True
-from tle_pairs import EXAMPLE, LENGTH, judge, line1, line2, put, whole
+from tle_pairs import EXAMPLE, LENGTH, LETTERED, catalogue, judge, line1, line2, put, whole
 
 ONE, TWO = EXAMPLE
 
@@ -38,7 +39,7 @@ def exponential(line, first):
 def fields(one, two):
     year = whole(one, 19, 20)
     day, units = whole(one, 21, 23), whole(one, 25, 32)
-    yield "number", whole(one, 3, 7)
+    yield "number", catalogue(one)
     yield "class", one[7:8].decode()
     yield "designator", one[9:17].decode().strip() or "-"
     yield "epoch", f"{year + (1900 if year >= 57 else 2000)} {day} {units * 864}"
@@ -106,6 +107,16 @@ def inputs():
     yield pair(two=put(TWO, LENGTH, ord("0")))
     yield pair(put(line1(ndot="+.00000023"), LENGTH, ord("4")))
     yield pair(two=line2(number="00006"))
+    # Letters in catalogue numbers: the ends of each row of them, what is no first place, numbers that differ.
+    for number in ["99999"] + LETTERED:
+        yield pair(line1(number=number), line2(number=number))
+    for byte in "IOaioz ":
+        yield pair(put(ONE, 3, ord(byte)))
+        yield pair(two=put(TWO, 3, ord(byte)))
+    yield pair(put(ONE, 4, ord("A")))
+    yield pair(line1(number="A0000"), line2(number="00000"))
+    yield pair(line1(number="H9999"), line2(number="J0000"))
+    yield pair(put(line1(number="A0000"), LENGTH, ord("9")), line2(number="A0000"))
     # Ranges.
     yield pair(line1(day="000.99999999"))
     yield pair(line1(day="367.00000000"))

@@ -1,9 +1,10 @@
 #!/usr/bin/env python3
 """An independent reader of two-line sets, and whole and damaged pairs to try it on.
 
-Written from document 01 ("The two lines", "Refusal numbers") and from nothing
-else. A field is the list of its lawful shapes; a column breaks the layout when
-no shape of its field agrees with the line up to it.
+Written from document 01 ("The two lines", "Refusal numbers"), from wish 1 of
+document 02 (letters in catalogue numbers) and from nothing else. A field is the
+list of its lawful shapes; a column breaks the layout when no shape of its field
+agrees with the line up to it.
 
   tle_pairs.py --write INPUT EXPECTED [--seed N] [--random N]
       writes pairs of lines, each ended by a newline (any other byte may stand in
@@ -35,8 +36,14 @@ LENGTH = 69
 
 # ------------------------------------------------------------------ the layout
 
+# Wish 1: the first of a catalogue number's five places may be a letter, A-Z
+# without I and O, standing for 10 to 33.
+LETTERS = [letter for letter in "ABCDEFGHIJKLMNOPQRSTUVWXYZ" if letter not in "IO"]
+FIRST_PLACES = {place: value for value, place in enumerate([*"0123456789", *LETTERS])}
+
 PLACES = {
     "d": b"0123456789",
+    "N": "".join(FIRST_PLACES).encode(),
     "L": b"ABCDEFGHIJKLMNOPQRSTUVWXYZ",
     "U": b"UCS",
     "s": b" +-",
@@ -53,6 +60,7 @@ def right_set(width, rest=""):
     return ["_" * blanks + "d" * (width - blanks) + rest for blanks in range(width)]
 
 
+NUMBER = ["Ndddd"]
 DESIGNATOR = ["_" * 8, "dddddL__", "dddddLL_", "dddddLLL"]
 DAY = ["ddd." + "d" * 8]
 HALF_DERIVATIVE = ["s." + "d" * 8]
@@ -62,10 +70,10 @@ MOTION = right_set(2, "." + "d" * 8)
 
 # Per line: first column, lawful shapes. Columns not named are blank.
 LAYOUT = {
-    1: {1: ["1"], 3: ["ddddd"], 8: ["U"], 10: DESIGNATOR, 19: ["dd"], 21: DAY,
+    1: {1: ["1"], 3: NUMBER, 8: ["U"], 10: DESIGNATOR, 19: ["dd"], 21: DAY,
         34: HALF_DERIVATIVE, 45: EXPONENTIAL, 54: EXPONENTIAL, 63: ["d"],
         65: right_set(4), 69: ["d"]},
-    2: {1: ["2"], 3: ["ddddd"], 9: ANGLE, 18: ANGLE, 27: ["d" * 7], 35: ANGLE,
+    2: {1: ["2"], 3: NUMBER, 9: ANGLE, 18: ANGLE, 27: ["d" * 7], 35: ANGLE,
         44: ANGLE, 53: MOTION, 64: right_set(5), 69: ["d"]},
 }
 
@@ -115,6 +123,11 @@ def whole(line, first, last):
     return int(line[first - 1:last].replace(b".", b"").replace(b" ", b"0"))
 
 
+def catalogue(line):
+    """The catalogue number in columns 3 to 7."""
+    return FIRST_PLACES[chr(line[2])] * 10000 + whole(line, 4, 7)
+
+
 def broken_range(line1, line2):
     day = whole(line1, 21, 32)
     if not 1_00000000 <= day < 367_00000000:
@@ -134,7 +147,7 @@ def judge(line1, line2):
         refusal = judge_line(which, line)
         if refusal:
             return refusal
-    if line1[2:7] != line2[2:7]:
+    if catalogue(line1) != catalogue(line2):
         return "refused 5"
     field = broken_range(line1, line2)
     return f"refused 6 {field}" if field else "ok"
@@ -218,8 +231,13 @@ class Draw:
                     motion=self.right_set(rng.randrange(100), 2, "." + self.digits(7) + "1"),
                     revolution=self.right_set(rng.randrange(10 ** rng.randint(1, 5)), 5))
 
+    def number(self):
+        """Half of them with a letter."""
+        first = self.rng.choice(LETTERS) if self.rng.random() < 0.5 else self.digits(1)
+        return first + self.digits(4)
+
     def pair(self):
-        number = self.digits(5)
+        number = self.number()
         return line1(**self.fields1(number)), line2(**self.fields2(number))
 
 
@@ -229,7 +247,7 @@ def published_pairs(path):
         yield first.rstrip(b"\r")[:LENGTH], second.rstrip(b"\r")[:LENGTH]
 
 
-DAMAGE = b",.:;/09AZaz \t-+_*~@\x00\x01\r\x0b\x7f\x80\xa0\xb2\xb9\xff"
+DAMAGE = b",.:;/09AIOZaioz \t-+_*~@\x00\x01\r\x0b\x7f\x80\xa0\xb2\xb9\xff"
 
 
 def damaged_columns(draw):
@@ -390,6 +408,30 @@ def numbers():
     yield line1(number="00007"), put(EXAMPLE[1], LENGTH, ord("8"))
 
 
+LETTERED = ["A0000", "H9999", "J0000", "N9999", "P0000", "Z9999"]
+
+
+def letters():
+    """Wish 1: letters in the first place, other bytes there, letters further on, numbers that differ."""
+    for text in LETTERED + [letter + "0005" for letter in LETTERS]:
+        yield line1(number=text), line2(number=text)
+    others = [byte + "0005" for byte in "IOiojaz @[`{/:-+.,\x00\x80\xc1"]
+    for text in others + ["0A000", "00B00", "000C0", "0000Z", "AA000", "Z999Z", "A000I", "Ao000", "A 000"]:
+        yield line1(number=text), line2(number=text)
+        yield EXAMPLE[0], line2(number=text)
+        yield line1(number="A0000"), line2(number=text)
+    for one, two in itertools.permutations(["00000", "10000", "80000"] + LETTERED, 2):
+        yield line1(number=one), line2(number=two)
+    # Letters add nothing to the checksum: not 1, not the number that they stand for.
+    for text in LETTERED:
+        value = FIRST_PLACES[text[0]]
+        for off in sorted({1, value % 10, value // 10 + value % 10} - {0}):
+            pair = line1(number=text), line2(number=text)
+            off1, off2 = (put(line, LENGTH, 48 + (line[68] - 48 + off) % 10) for line in pair)
+            yield off1, pair[1]
+            yield pair[0], off2
+
+
 BEYOND = dict(inclination=["180.0001", "181.0000", "360.0000", "999.9999"],
               node=["360.0000", "360.0001", "400.0000", "999.9999"],
               perigee=["360.0000", "360.0001", "999.9999"],
@@ -486,6 +528,7 @@ def pairs(published, seed, count):
     yield from lengths(draw)
     yield from first_columns()
     yield from numbers()
+    yield from letters()
     yield from ranges()
     yield from whole_pairs(draw, count)
     yield from edge_columns(draw, count)

@@ -1,14 +1,16 @@
 #!/usr/bin/env python3
 """Pairs to be written anew, and what becomes of the rooms that are lent.
 
-Written from document 01 ("The two lines", "Refusal numbers") and from nothing
-else. The pairs are spelt in other ways than the writer's: zeros for blanks, plus
-signs, a minus before a zero, `+0` for `-0`.
+Written from document 01 ("The two lines", "Refusal numbers"), from wish 1 of
+document 02 and from nothing else. The pairs are spelt in other ways than the
+writer's: zeros for blanks, plus signs, a minus before a zero, `+0` for `-0`. A
+catalogue number, with a letter or without, has one form only.
 
   written_lines.py --write INPUT EXPECTED
-      writes the pairs, and for each line of each pair four rooms as they are
-      afterwards: of 80, 69 and 68 bytes, and of 80 for an inclination of
-      180.0001. Before each stand the refusal and the bytes handed back.
+      writes the pairs, and for each line of each pair five rooms as they are
+      afterwards: of 80, 69 and 68 bytes, of 80 for an inclination of 180.0001,
+      and of 80 for the catalogue number 340000. Before each stand the refusal
+      and the bytes handed back.
 """
 
 import argparse
@@ -16,7 +18,7 @@ import sys
 from pathlib import Path
 
 sys.dont_write_bytecode = True
-from tle_pairs import EXAMPLE
+from tle_pairs import EXAMPLE, LETTERED
 
 
 def right_set(text):
@@ -68,13 +70,17 @@ def pairs():
            summed("2 99999 000.0000 000.0000 0000000 000.0000 000.0000 00.0000000100000"))
     yield (summed("1 00000C 99999ABC 57001.00000000 -.99999999 -99999-9  99999+9 0    0"),
            summed("2 00000 180.0000 359.9999 9999999 359.9999 359.9999 99.9999999999999"))
+    for number in LETTERED:
+        yield (summed(f"1 {number}U 58002B   00179.78495062 +.00000023 +00000+0 +28098-4 0 0475"),
+               summed(f"2 {number} 034.2682 348.7242 1859667 331.7664 019.3264 10.8241915741366"))
 
 
 def rooms(line):
     yield f"0 69 {line}" + "#" * 11
     yield f"0 69 {line}"
     yield "17 68 " + "#" * 68
-    yield "16 80 " + "#" * 80
+    for _ in range(2):
+        yield "16 80 " + "#" * 80
 
 
 def main():

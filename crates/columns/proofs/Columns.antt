@@ -36,22 +36,22 @@ module _ (cs bs : List ℕ) (p : Bool) (i n : ℕ) (inv : i + agreed (drop i cs)
 abbrev pub Kept : List ℕ → List ℕ → Bool → ℕ → Type 0
 Kept cs bs keeps i = keeps ≡ true → i + agreed (drop i cs) (eqb (getD bs (i - 1) 0) 32) (drop i bs) ≡ agreed cs true bs
 
-both : (a b : Bool) → (a && b) ≡ true → (a ≡ true) × (b ≡ true)
+pub both : (a b : Bool) → (a && b) ≡ true → (a ≡ true) × (b ≡ true)
 both true b e = (refl, e)
 both false b e = (e, let z : _≡_ {A = ℕ} 0 1 = cc in absurd (omega arith))
 
 module _ (cs bs : List ℕ) (same : length cs ≡ length bs) where
-  pub kept-first : (fit : Bool) → fit ≡ fits (getD cs 0 0) true (getD bs 0 0) → 0 < length bs → Kept cs bs fit 1
+  pub kept-first : (fit : Bool) → (fit ≡ true → fits (getD cs 0 0) true (getD bs 0 0) ≡ true) → 0 < length bs → Kept cs bs fit 1
   kept-first fit f h e =
       let whole : 0 + agreed cs true bs ≡ agreed cs true bs = omega arith in
-      more cs bs true 0 (agreed cs true bs) whole (omega arith) h (sym f ∙ e)
+      more cs bs true 0 (agreed cs true bs) whole (omega arith) h (f e)
 
-  pub kept-more : (keeps fit : Bool) (i : ℕ) → fit ≡ fits (getD cs i 0) (eqb (getD bs (i - 1) 0) 32) (getD bs i 0) → i < length bs
+  pub kept-more : (keeps fit : Bool) (i : ℕ) → (fit ≡ true → fits (getD cs i 0) (eqb (getD bs (i - 1) 0) 32) (getD bs i 0) ≡ true) → i < length bs
       → Kept cs bs keeps i → Kept cs bs (keeps && fit) (i + 1)
   kept-more keeps fit i f h k e =
       let b = both keeps fit e in
       let back : i + 1 - 1 ≡ i = omega arith in
-      rw back (more cs bs (eqb (getD bs (i - 1) 0) 32) i (agreed cs true bs) (k (b .0)) (omega arith) h (sym f ∙ b .1))
+      rw back (more cs bs (eqb (getD bs (i - 1) 0) 32) i (agreed cs true bs) (k (b .0)) (omega arith) h (f (b .1)))
 
   pub kept-all : (keeps : Bool) (i : ℕ) → length bs ≤ i → i ≤ length bs → Kept cs bs keeps i → keeps ≡ true → agreed cs true bs ≡ length bs
   kept-all keeps i low high k e =

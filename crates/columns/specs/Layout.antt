@@ -1,6 +1,7 @@
 -- Document 01, "The two lines": what may stand in each column. A layout is a text with one letter for each column, its class:
 --   blank . 1 2   that byte itself        D  a digit
 --   S  a sign: blank, + or -              E  the sign of an exponent: + or -        C  U, C or S
+--   N  the first place of a catalogue number: a digit, or a letter but I and O (document 02, wish 1)
 --   R  the first place of a right-set number, or of the designator: a blank or a digit
 --   r  a later leading place of a right-set number: a digit, or a blank after a blank
 --   f  a later digit of the designator: a digit, or after a blank a blank
@@ -16,10 +17,10 @@ use lib.ListN.{length}
 use Rattle.text.specs.Output.{bytes}
 
 abbrev pub layout1 : List ℕ
-layout1 = bytes "1 DDDDDC RffffLll DDDDD.DDDDDDDD S.DDDDDDDD SDDDDDED SDDDDDED D RrrDD"
+layout1 = bytes "1 NDDDDC RffffLll DDDDD.DDDDDDDD S.DDDDDDDD SDDDDDED SDDDDDED D RrrDD"
 
 abbrev pub layout2 : List ℕ
-layout2 = bytes "2 DDDDD RrD.DDDD RrD.DDDD DDDDDDD RrD.DDDD RrD.DDDD RD.DDDDDDDDRrrrDD"
+layout2 = bytes "2 NDDDD RrD.DDDD RrD.DDDD DDDDDDD RrD.DDDD RrD.DDDD RD.DDDDDDDDRrrrDD"
 
 abbrev pub isBlank : ℕ → Bool
 isBlank b = eqb b (code " ")
@@ -30,9 +31,13 @@ isDigit b = leb (code "0") b && leb b (code "9")
 abbrev pub isLetter : ℕ → Bool
 isLetter b = leb (code "A") b && leb b (code "Z")
 
--- b may stand in a column of the class; after: the byte before it is a blank
-abbrev pub fits : ℕ → Bool → ℕ → Bool
-fits class after b =
+-- a digit, or a letter A-Z without I and O
+abbrev pub opensNumber : ℕ → Bool
+opensNumber b = isDigit b || isLetter b && not (eqb b (code "I")) && not (eqb b (code "O"))
+
+-- b may stand in a column of a class but N; after: the byte before it is a blank
+abbrev pub fitsPlain : ℕ → Bool → ℕ → Bool
+fitsPlain class after b =
     eqb class b && ltb class (code "A")
     || eqb class (code "D") && isDigit b
     || eqb class (code "R") && (isBlank b || isDigit b)
@@ -43,6 +48,10 @@ fits class after b =
     || eqb class (code "S") && (isBlank b || eqb b (code "+") || eqb b (code "-"))
     || eqb class (code "E") && (eqb b (code "+") || eqb b (code "-"))
     || eqb class (code "C") && (eqb b (code "U") || eqb b (code "C") || eqb b (code "S"))
+
+-- b may stand in a column of any class
+abbrev pub fits : ℕ → Bool → ℕ → Bool
+fits class after b = fitsPlain class after b || eqb class (code "N") && opensNumber b
 
 -- how many columns, from the first, agree with the layout
 unfoldable pub agreed : List ℕ → Bool → List ℕ → ℕ

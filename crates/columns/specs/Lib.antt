@@ -1,3 +1,5 @@
 pub mod Layout
+pub mod Three
 pub mod Sum
+pub mod FirstPlace
 pub mod Claims

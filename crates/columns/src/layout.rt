@@ -4,12 +4,22 @@ ghost use mathlib.Core.Path.{_≡_};
 ghost use mathlib.Core.Bool.{true};
 ghost use lib.ListN.{length};
 ghost use Prim.Native.Nat.{_≤_, _<_};
-ghost use Rattle.columns.specs.Layout.{fits, agreed};
+ghost use Rattle.columns.specs.Layout.{opensNumber, fitsPlain, fits, agreed};
+use super::three::begins_as;
 
-// Whether byte b may stand in a column of the class (specs/Layout.antt); after: the byte before it is
-// a blank.
-fn fits_at(class: u8, after: bool, b: u8) -> bool
-    ensures { λ r. ⌜ r ≡ fits class after b ⌝ }
+// Whether byte b may be the first place of a catalogue number: a digit, or a letter but I and O.
+pub(crate) fn opens_number(b: u8) -> bool
+    ensures { λ r. ⌜ r ≡ opensNumber b ⌝ }
+{
+    let digit = (b'0' <= b) & (b <= b'9');
+    let letter = (b'A' <= b) & (b <= b'Z');
+    digit | (letter & !(b == b'I') & !(b == b'O'))
+}
+
+// Whether byte b may stand in a column of the class (specs/Layout.antt), which is not N; after: the
+// byte before it is a blank.
+fn fits_plain(class: u8, after: bool, b: u8) -> bool
+    ensures { λ r. ⌜ r ≡ fitsPlain class after b ⌝ }
 {
     let digit = (b'0' <= b) & (b <= b'9');
     let letter = (b'A' <= b) & (b <= b'Z');
@@ -26,16 +36,23 @@ fn fits_at(class: u8, after: bool, b: u8) -> bool
         | ((class == b'C') & ((b == b'U') | (b == b'C') | (b == b'S')))
 }
 
-// Whether every column agrees with the layout. The loop has no way out and no branch, so that the
-// machine can take many columns at once.
+// The same, of any class.
+fn fits_at(class: u8, after: bool, b: u8) -> bool
+    ensures { λ r. ⌜ r ≡ fits class after b ⌝ }
+{
+    fits_plain(class, after, b) | ((class == b'N') & opens_number(b))
+}
+
+// True only where every column agrees with the layout; class N is looked for in the third alone. The
+// loop has no way out and no branch, so that the machine can take many columns at once.
 fn keeps_layout(layout: &[u8], line: &[u8]) -> bool
-    requires { ⌜ (length (now layout) ≡ length (now line)) × (0 < length (now line)) ⌝ }
+    requires { ⌜ (length (now layout) ≡ length (now line)) × (3 ≤ length (now line)) ⌝ }
     ensures { λ r. ⌜ (r ≡ true → agreed (now (layout .entry)) true (now (line .entry)) ≡ length (now (line .entry))) ⌝ }
 {
-    let mut keeps = fits_at(layout[0], true, line[0]);
-    let mut i = 1;
+    let mut keeps = begins_as(layout, line);
+    let mut i = 3;
     while i < line.len() {
-        keeps = keeps & fits_at(layout[i], line[i - 1] == b' ', line[i]);
+        keeps = keeps & fits_plain(layout[i], line[i - 1] == b' ', line[i]);
         i += 1;
     }
     keeps
@@ -66,7 +83,7 @@ pub fn agreeing(layout: &[u8], line: &[u8]) -> usize
     ensures { λ r. ⌜ (r ≡ agreed (now (layout .entry)) true (now (line .entry))) × (r ≤ length (now (line .entry))) ⌝ }
 {
     if layout.len() == line.len() {
-        if 0 < line.len() {
+        if 3 <= line.len() {
             if keeps_layout(layout, line) {
                 return line.len();
             }

@@ -1,8 +1,12 @@
-// The columns of a line: how many of them agree with a layout, the digit that a byte shows, and the
-// checksum of bytes. What the columns mean is read in crate tle.
+// The columns of a line: how many of them agree with a layout, the digit that a byte shows, what the
+// first place of a catalogue number stands for, and the checksum of bytes. What the columns mean is read
+// in crate tle.
+mod catalogue;
 mod digits;
 mod layout;
+mod three;
 
+pub use catalogue::first_place;
 pub use digits::checksum;
 pub use digits::digit;
 pub use layout::agreeing;

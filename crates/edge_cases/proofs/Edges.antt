@@ -6,6 +6,8 @@ use Rattle.instant.specs.Calendar.{daysIn, daysBefore, epochMicros, lastDay, da
 use Rattle.columns.specs.Layout.{agreed}
 use Rattle.columns.specs.Sum.{digitOf, sum}
 use Rattle.tle.specs.Number.{valueOn}
+use Rattle.columns.specs.FirstPlace.{position, firstOf}
+use Rattle.tle.specs.Catalogue.{catalogueOf}
 use Rattle.tle.specs.Refusals.{valuesOf}
 use Rattle.tle.specs.Read.{verdictOf, numberAt, pairOf, yearOf, dayAt, motionAt, degreesAt, fieldsOf, formOf, rangesOf, readOf}
 use Rattle.tle.specs.declared.Record.{Record}
@@ -19,7 +21,7 @@ use Rattle.sequences.proofs.Edges as R
 use Rattle.edge_cases.specs.Cases.{Case, strides, outcome, Claim, Every, lines, edges}
 
 lines-hold : Every Claim lines
-unfolding Every Claim outcome lines readOf formOf pairOf verdictOf agreed sum digitOf valueOn numberAt fieldsOf rangesOf yearOf dayAt motionAt degreesAt dayInRange lastDay valuesOf epochMicros daysBefore daysIn
+unfolding Every Claim outcome lines readOf formOf pairOf verdictOf agreed sum digitOf valueOn numberAt catalogueOf firstOf position fieldsOf rangesOf yearOf dayAt motionAt degreesAt dayInRange lastDay valuesOf epochMicros daysBefore daysIn
 lines-hold = (
   (refl, refl),
   (

@@ -3,6 +3,7 @@ use mathlib.Core.Path.{_≡_, refl}
 use mathlib.Core.List.{List, [], _∷_, _++_}
 use Prim.Native.Nat.{ℕ}
 use Prim.Native.String.{String}
+use lib.ListN.{take}
 use Rattle.text.specs.Output.{bytes, spell, signed, glyph, places, line}
 use Rattle.text.specs.Input.{lineOf, restOf}
 use Rattle.instant.specs.Calendar.{lastDay, dayInRange}
@@ -10,6 +11,8 @@ use Rattle.columns.specs.Layout.{agreed}
 use Rattle.tle.specs.Number as tle-number
 use Rattle.columns.specs.Sum.{digitOf, sum}
 use Rattle.tle.specs.Number.{valueOn, minus}
+use Rattle.columns.specs.FirstPlace.{position, firstOf}
+use Rattle.tle.specs.Catalogue.{catalogueOf}
 use Rattle.tle.specs.Read.{verdictOf, numberAt, pairOf, classOf, letter, designatorAt, yearOf, ndotAt, scaledAt, dayAt, motionAt, degreesAt, fieldsOf, formOf, rangesOf, readOf}
 use Rattle.tle.specs.declared.Designator.the-variants.{Blank, Piece}
 use Rattle.tle.specs.declared.Field.the-variants.{Day}
@@ -45,8 +48,17 @@ example : pairText (lines
     ∷ "motion 1082419157"
     ∷ "revolution 41366"
     ∷ [])
-unfolding pairText lines lineOf restOf readOf formOf pairOf verdictOf agreed sum fieldsOf rangesOf dayInRange lastDay numberAt classOf designatorAt yearOf dayAt ndotAt scaledAt degreesAt motionAt valueOn digitOf tle-number.signed minus readingText recordText fields1 fields2 scaledText epochText designatorText trimmed letter line places glyph signed spell
+unfolding pairText lines lineOf restOf readOf formOf pairOf verdictOf agreed sum fieldsOf rangesOf dayInRange lastDay numberAt catalogueOf firstOf position classOf designatorAt yearOf dayAt ndotAt scaledAt degreesAt motionAt valueOn digitOf tle-number.signed minus readingText recordText fields1 fields2 scaledText epochText designatorText trimmed letter line places glyph signed spell
 example = refl
+
+-- document 02, wish 1: the number of a pair with a letter, in decimal
+letters : take 14 (pairText (lines
+    ("1 Z9999U 58002B   00179.78495062  .00000023  00000-0  28098-4 0  4754"
+    ∷ "2 Z9999  34.2682 348.7242 1859667 331.7664  19.3264 10.82419157413668"
+    ∷ [])))
+    ≡ bytes "number 339999\n"
+unfolding pairText lines lineOf restOf readOf formOf pairOf verdictOf agreed sum fieldsOf rangesOf dayInRange lastDay numberAt catalogueOf firstOf position classOf designatorAt yearOf dayAt ndotAt scaledAt degreesAt motionAt valueOn digitOf tle-number.signed minus readingText recordText fields1 fields2 scaledText epochText designatorText trimmed letter line places glyph signed spell
+letters = refl
 
 refused-text : readingText (Refused (Range Day)) ≡ bytes "refused 6\n"
 unfolding readingText line spell

@@ -139,7 +139,7 @@ legal-eccentricity : (r : Record) → legal r ≡ true → ltb (r .eccentricity)
 unfolding legal inLayout
 legal-eccentricity r h =
     let before =
-    ltb (r .number) 100000 && designatorFits (r .designator) && leb 1957 (r .year) && leb (r .year) 2056
+    ltb (r .number) 340000 && designatorFits (r .designator) && leb 1957 (r .year) && leb (r .year) 2056
     && ltb (natAbs (r .ndot)) 100000000 && scaledFits (r .nddot) && scaledFits (r .bstar)
     && ltb (r .ephemeris) 10 && ltb (r .element) 10000
     in

@@ -3,3 +3,4 @@ pub mod DeepSpace
 pub mod Ahead
 pub mod Opening
 pub mod Finite
+pub mod Examples

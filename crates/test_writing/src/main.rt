@@ -1,6 +1,6 @@
 // Writes each pair of standard input anew and prints what becomes of the room that is lent: the number
 // that write_line tells, how many bytes it hands back, and the whole room. The rooms are longer than a
-// line, exactly a line, and a byte too short; then a record that no line can hold. The input has 140
+// line, exactly a line, and a byte too short; then two records that no line can hold. The input has 140
 // bytes a pair: two lines of 69, each ended by a newline.
 use text::put_byte;
 use text::put_bytes;
@@ -56,6 +56,9 @@ fn print_line(failed: &mut bool, r: Record, which: Line) {
     print_short(failed, r, which);
     let mut beyond = r;
     beyond.inclination = 1800001;
+    print_longer(failed, beyond, which);
+    let mut beyond = r;
+    beyond.number = 340000;
     print_longer(failed, beyond, which);
 }
 

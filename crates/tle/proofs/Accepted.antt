@@ -25,6 +25,7 @@ use Rattle.tle.specs.declared.Form.the-variants as form
 use Rattle.tle.specs.declared.Reading.{Reading}
 use Rattle.tle.specs.declared.Reading.the-variants as reading
 use Rattle.tle.proofs.Steps.{field-below}
+use Rattle.tle.proofs.Catalogue.{number-below}
 use Rattle.tle.proofs.Judged.{lawful, pair}
 use Rattle.tle.proofs.Designators.{designator-fits}
 
@@ -65,12 +66,12 @@ below at w line n e = lt-ltb (field at w line) n (omega (arith, field-below at w
 
 -- the fields of lawful lines are inside the layout
 in-layout : (line1 line2 : List ℕ) → pairOf line1 line2 ≡ verdict.Lawful → inLayout (fieldsOf line1 line2) ≡ true
-unfolding inLayout fieldsOf numberAt ndotAt motionAt
+unfolding inLayout fieldsOf ndotAt motionAt
 in-layout line1 line2 e =
     let first = lawful One layout1 line1 (pair line1 line2 e .0) in
     let year = year-from (field 18 2 line1) (leb 57 (field 18 2 line1)) refl (field-below 18 2 line1) in
     let motion : field 52 2 line2 * 100000000 + field 55 8 line2 < 10000000000 = omega (arith, field-below 52 2 line2, field-below 55 8 line2) in
-    below 2 5 line1 100000 refl and designator-fits line1 (first .1) and year .0 and year .1
+    lt-ltb (numberAt line1) 340000 (number-below line1) and designator-fits line1 (first .1) and year .0 and year .1
     and rw (abs-signed (minusAt 33 line1) (field 35 8 line1)) (below 35 8 line1 100000000 refl)
     and scaled 44 line1 and scaled 53 line1
     and below 62 1 line1 10 refl and below 64 4 line1 10000 refl and below 26 7 line2 10000000 refl
@@ -130,7 +131,7 @@ halves false b q = let z : _≡_ {A = ℕ} 0 1 = cc in absurd (omega arith)
 year-in : (r : Record) → inLayout r ≡ true → yearInRange (r .year) ≡ true
 unfolding inLayout yearInRange
 year-in r q =
-    years (ltb (r .number) 100000) (designatorFits (r .designator)) (leb 1957 (r .year)) (leb (r .year) 2056)
+    years (ltb (r .number) 340000) (designatorFits (r .designator)) (leb 1957 (r .year)) (leb (r .year) 2056)
     (ltb (natAbs (r .ndot)) 100000000) (scaledFits (r .nddot)) (scaledFits (r .bstar)) (ltb (r .ephemeris) 10) (ltb (r .element) 10000)
     (ltb (r .eccentricity) 10000000) (ltb (r .motion) 10000000000) (ltb (r .revolution) 100000) q
 

@@ -16,11 +16,11 @@ use Rattle.tle.specs.declared.Designator.the-variants.{Blank, Piece}
 use Rattle.tle.proofs.Steps.{field-below}
 
 -- the byte before the column after the first i is a blank
-abbrev afterBlank : Bool → List ℕ → ℕ → Bool
+abbrev pub afterBlank : Bool → List ℕ → ℕ → Bool
 afterBlank a bs zero = a
 afterBlank a bs (suc i) = isBlank (getD bs i 0)
 
-abbrev Fits : List ℕ → Bool → List ℕ → ℕ → Type 0
+abbrev pub Fits : List ℕ → Bool → List ℕ → ℕ → Type 0
 Fits cs a bs i = fits (getD cs i 0) (afterBlank a bs i) (getD bs i 0) ≡ true
 
 -- every column of a line that agrees with its layout fits its class

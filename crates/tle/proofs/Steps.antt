@@ -30,17 +30,23 @@ small a i h g = omega (arith, pow-le-pow-right {n = 10} (omega arith) {i = i} {j
 pub part-length : (l : List ℕ) (at w : ℕ) → at + w ≤ length l → length (take w (drop at l)) ≡ w
 part-length l at w h = simp (length-take, length-drop) (omega arith)
 
-value-below : (s : List ℕ) (a k : ℕ) → a < 10 ^ k → valueOn a s < 10 ^ (k + length s)
+-- a number below n, with the places of s after it
+pub value-below : (s : List ℕ) (a n : ℕ) → a < n → valueOn a s < n * 10 ^ length s
 unfolding valueOn
-value-below [] a k h = let e : k + 0 ≡ k = omega arith in rw e h
-value-below (b ∷ s) a k h =
-    let e : k + suc (length s) ≡ k + 1 + length s = omega arith in
-    rw e (value-below s (a * 10 + digitOf b) (k + 1) (places a (digitOf b) k h (digit-below b)))
+value-below [] a n h = omega arith
+value-below (b ∷ s) a n h =
+    rw pow-suc (omega (arith, value-below s (a * 10 + digitOf b) (n * 10) (omega (arith, digit-below b))))
+
+pub value-after : (a : ℕ) (s : List ℕ) → valueOn a s ≡ a * 10 ^ length s + valueOn 0 s
+unfolding valueOn
+value-after a [] = omega arith
+value-after a (b ∷ s) =
+    rw pow-suc (omega (arith, value-after (a * 10 + digitOf b) s, value-after (0 * 10 + digitOf b) s))
 
 -- a field of w columns is below 10 ^ w
 pub field-below : (at w : ℕ) (line : List ℕ) → field at w line < 10 ^ w
 field-below at w line =
     let n = length (take w (drop at line)) in
-    let h = value-below (take w (drop at line)) 0 0 (omega arith) in
-    let short : 0 + n ≤ w = simp length-take (omega arith) in
-    omega (arith, h, pow-le-pow-right {n = 10} (omega arith) {i = 0 + n} {j = w} short)
+    let h = value-below (take w (drop at line)) 0 1 (omega arith) in
+    let short : n ≤ w = simp length-take (omega arith) in
+    omega (arith, h, pow-le-pow-right {n = 10} (omega arith) {i = n} {j = w} short)

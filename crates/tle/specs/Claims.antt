@@ -1,18 +1,21 @@
--- What is claimed of reading, beyond its definition. Proved in proofs/Least.antt and proofs/Accepted.antt.
+-- What is claimed of reading, beyond its definition. Proved in proofs/Least.antt, proofs/Accepted.antt and proofs/FirstPlaces.antt.
 use Prim.Native.Nat.{ℕ}
 use mathlib.Core.Path.{_≡_}
-use mathlib.Core.Bool.{true}
-use mathlib.Core.List.{List}
+use mathlib.Core.Bool.{true, false}
+use mathlib.Core.List.{List, _∷_, _++_}
+use lib.ListN.{length}
 use Rattle.instant.specs.Calendar.{epochMicros, epochOf}
 use Rattle.instant.specs.declared.Epoch.the-variants as epoch
-use Rattle.columns.specs.Layout.{layout1, layout2}
+use Rattle.text.specs.Output.{bytes}
+use Rattle.columns.specs.Layout.{layout1, layout2, opensNumber}
 use Rattle.columns.specs.Claims.{FirstFault}
 use Rattle.tle.specs.Legal.{legal}
-use Rattle.tle.specs.Read.{readOf}
+use Rattle.tle.specs.Read.{verdictOf, readOf}
 use Rattle.tle.specs.declared.Record.{Record}
 use Rattle.tle.specs.declared.Line.{Line}
 use Rattle.tle.specs.declared.Line.the-variants.{One, Two}
 use Rattle.tle.specs.declared.Refusal.the-variants.{Column}
+use Rattle.tle.specs.declared.Verdict.the-variants as verdict
 use Rattle.tle.specs.declared.Reading.the-variants as reading
 
 abbrev pub layoutOf : Line → List ℕ
@@ -36,3 +39,10 @@ AcceptedAreLegal = (line1 line2 : List ℕ) (r : Record) → readOf line1 line2 
 -- the epoch of a legal record is an instant inside 1957-2056
 abbrev pub EpochsInside : Type 0
 EpochsInside = (r : Record) → legal r ≡ true → epochOf (r .year) (r .day) ≡ epoch.At (record { 0 = epochMicros (r .year) (r .day) })
+
+-- document 02, wish 1: a byte in column 3 that is neither a digit nor a letter A-Z without I and O is refusal 3 at that column
+pub record OtherFirstPlaces : Type 0 where
+  pub one : (b : ℕ) (rest line2 : List ℕ) → length rest ≡ 66 → opensNumber b ≡ false
+      → readOf (bytes "1 " ++ (b ∷ rest)) line2 ≡ reading.Refused (Column One 3)
+  pub two : (line1 : List ℕ) (b : ℕ) (rest : List ℕ) → verdictOf One layout1 line1 ≡ verdict.Lawful → length rest ≡ 66 → opensNumber b ≡ false
+      → readOf line1 (bytes "2 " ++ (b ∷ rest)) ≡ reading.Refused (Column Two 3)

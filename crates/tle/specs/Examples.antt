@@ -1,13 +1,18 @@
--- 002's example: its two lines, and the record that reading them gives. Document 01's cases at the edges are in crate edge_cases.
+-- 002's example: its two lines, and the record that reading them gives; catalogue numbers with letters. Document 01's cases at the edges
+-- are in crate edge_cases.
 use Prim.Native.Nat.{ℕ}
 use mathlib.Core.Path.{_≡_, refl}
-use mathlib.Core.List.{List}
+use mathlib.Core.List.{List, [], _∷_, map}
+use mathlib.Core.Bool.{true, false}
 use lib.IntN.{pos, negsuc}
 use Rattle.instant.specs.Calendar.{lastDay, dayInRange}
 use Rattle.text.specs.Output.{bytes}
 use Rattle.columns.specs.Layout.{agreed}
 use Rattle.columns.specs.Sum.{digitOf, sum}
 use Rattle.tle.specs.Number.{valueOn, signed, minus}
+use Rattle.columns.specs.FirstPlace.{position, firstOf}
+use Rattle.tle.specs.Catalogue.{catalogueOf}
+use Rattle.tle.specs.Legal.{inRanges, designatorFits, scaledFits, inLayout, legal}
 use Rattle.tle.specs.Read.{verdictOf, numberAt, pairOf, classOf, designatorAt, yearOf, ndotAt, scaledAt, dayAt, motionAt, degreesAt, fieldsOf, formOf, rangesOf, readOf}
 use Rattle.tle.specs.declared.Class.the-variants.{Unclassified}
 use Rattle.tle.specs.declared.Designator.the-variants.{Piece}
@@ -20,9 +25,10 @@ line1 = bytes "1 00005U 58002B   00179.78495062  .00000023  00000-0  28098-4 0  
 abbrev pub line2 : List ℕ
 line2 = bytes "2 00005  34.2682 348.7242 1859667 331.7664  19.3264 10.82419157413667"
 
-abbrev pub vanguard : Record
-vanguard = record {
-  number = 5;
+-- its record, with the catalogue number n
+abbrev pub numbered : ℕ → Record
+numbered n = record {
+  number = n;
   class = Unclassified;
   designator = Piece 58002 66 32 32;
   year = 2000;
@@ -41,6 +47,25 @@ vanguard = record {
   revolution = 41366;
 }
 
+abbrev pub vanguard : Record
+vanguard = numbered 5
+
 pub example : readOf line1 line2 ≡ reading.Record vanguard
-unfolding readOf formOf pairOf verdictOf agreed sum fieldsOf rangesOf dayInRange lastDay numberAt classOf designatorAt yearOf dayAt ndotAt scaledAt degreesAt motionAt valueOn digitOf signed minus
+unfolding readOf formOf pairOf verdictOf agreed sum fieldsOf rangesOf dayInRange lastDay numberAt catalogueOf firstOf position classOf designatorAt yearOf dayAt ndotAt scaledAt degreesAt motionAt valueOn digitOf signed minus
 example = refl
+
+-- document 02, wish 1: the numbers at the ends of each row of letters
+pub letters : map catalogueOf
+    (bytes "99999" ∷ bytes "A0000" ∷ bytes "H9999" ∷ bytes "J0000" ∷ bytes "N9999" ∷ bytes "P0000" ∷ bytes "Z9999" ∷ [])
+    ≡ 99999 ∷ 100000 ∷ 179999 ∷ 180000 ∷ 229999 ∷ 230000 ∷ 339999 ∷ []
+unfolding catalogueOf firstOf position valueOn digitOf
+letters = refl
+
+-- the largest of a record, and one too large
+pub largest : legal (numbered 339999) ≡ true
+unfolding legal inLayout inRanges designatorFits scaledFits dayInRange lastDay
+largest = refl
+
+pub too-large : legal (numbered 340000) ≡ false
+unfolding legal inLayout inRanges designatorFits scaledFits dayInRange lastDay
+too-large = refl

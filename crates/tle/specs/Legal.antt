@@ -43,10 +43,11 @@ scaledFits s =
     ltb (natAbs (s .mantissa)) 100000 && ltb (natAbs (s .exponent)) 10
     && (not (eqb (natAbs (s .mantissa)) 0) || eqb (natAbs (s .exponent)) 0)
 
--- what the columns can hold of the fields that no range bounds; years 57-99 are 1957-1999 and 00-56 are 2000-2056
+-- what the columns can hold of the fields that no range bounds: a catalogue number up to Z9999, which is 339999; years 57-99 are
+-- 1957-1999 and 00-56 are 2000-2056
 unfoldable pub inLayout : Record → Bool
 inLayout r =
-    ltb (r .number) 100000 && designatorFits (r .designator) && leb 1957 (r .year) && leb (r .year) 2056
+    ltb (r .number) 340000 && designatorFits (r .designator) && leb 1957 (r .year) && leb (r .year) 2056
     && ltb (natAbs (r .ndot)) 100000000 && scaledFits (r .nddot) && scaledFits (r .bstar)
     && ltb (r .ephemeris) 10 && ltb (r .element) 10000 && ltb (r .eccentricity) 10000000
     && ltb (r .motion) 10000000000 && ltb (r .revolution) 100000

@@ -1,4 +1,5 @@
 pub mod Number
+pub mod Catalogue
 pub mod Legal
 pub mod Refusals
 pub mod Read

@@ -5,10 +5,11 @@ use mathlib.Core.Bool.{Bool, true, cond}
 use Prim.Native.Char.{code}
 use lib.Dec.{eqb, ltb, leb}
 use lib.IntN.{ℤ, pos}
-use lib.ListN.{length, take, getD}
+use lib.ListN.{length, take, drop, getD}
 use Rattle.columns.specs.Layout.{agreed, isBlank, layout1, layout2}
 use Rattle.columns.specs.Sum.{digitOf, sum}
 use Rattle.tle.specs.Number.{field, signed}
+use Rattle.tle.specs.Catalogue.{catalogueOf}
 use Rattle.instant.specs.Calendar.{dayInRange}
 use Rattle.tle.specs.Legal.{inclinationInRange, angleInRange, motionInRange}
 use Rattle.tle.specs.declared.Class.{Class}
@@ -44,9 +45,9 @@ verdictOf which layout line =
     (unless (eqb (agreed layout true line) 69) (verdict.Refused (Column which (agreed layout true line + 1)))
     (unless (eqb (checksumOf line) (digitOf (getD line 68 0))) (verdict.Refused (Checksum which)) verdict.Lawful)))
 
--- the catalogue number of a line, five digits in columns 3 to 7
+-- the catalogue number of a line, in columns 3 to 7
 unfoldable pub numberAt : List ℕ → ℕ
-numberAt line = field 2 5 line
+numberAt line = catalogueOf (take 5 (drop 2 line))
 
 -- a second verdict, where the first is lawful
 abbrev pub then : Verdict → Verdict → Verdict

@@ -76,7 +76,7 @@ fn in_layout(r: Record) -> bool
     let d = r.designator;
     let nddot = r.nddot;
     let bstar = r.bstar;
-    (r.number < 100000)
+    (r.number < 340000)
         & designator_fits(d)
         & (1957 <= r.year)
         & (r.year <= 2056)

@@ -22,6 +22,7 @@ use super::limits::motion_in_range;
 use columns::agreeing;
 use columns::checksum;
 use columns::digit;
+use columns::first_place;
 use instant::day_in_range;
 
 // The whole number that the bytes show.
@@ -72,7 +73,7 @@ fn number_at(line: &[u8]) -> u64
     requires { ⌜ length (now line) ≡ 69 ⌝ }
     ensures { λ r. ⌜ r ≡ numberAt (now (line .entry)) ⌝ }
 {
-    field_at(line, 2, 5)
+    first_place(line[2]) * 10000 + field_at(line, 3, 4)
 }
 
 // Refusals 1 to 5: line 1, then line 2, then both. crate columns says what each letter of a layout
@@ -80,8 +81,8 @@ fn number_at(line: &[u8]) -> u64
 fn judge_pair(line1: &[u8], line2: &[u8]) -> Verdict
     ensures { λ r. ⌜ r ≡ pairOf (now (line1 .entry)) (now (line2 .entry)) ⌝ }
 {
-    let layout1 = b"1 DDDDDC RffffLll DDDDD.DDDDDDDD S.DDDDDDDD SDDDDDED SDDDDDED D RrrDD";
-    let layout2 = b"2 DDDDD RrD.DDDD RrD.DDDD DDDDDDD RrD.DDDD RrD.DDDD RD.DDDDDDDDRrrrDD";
+    let layout1 = b"1 NDDDDC RffffLll DDDDD.DDDDDDDD S.DDDDDDDD SDDDDDED SDDDDDED D RrrDD";
+    let layout2 = b"2 NDDDD RrD.DDDD RrD.DDDD DDDDDDD RrD.DDDD RrD.DDDD RD.DDDDDDDDRrrrDD";
     let first = judge_line(Line::One, layout1, line1);
     let Verdict::Lawful = first else {
         return first;

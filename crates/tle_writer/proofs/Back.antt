@@ -15,16 +15,17 @@ use Rattle.tle.specs.declared.Record.{Record}
 use Rattle.tle.specs.declared.Designator.{Designator}
 use Rattle.tle.specs.declared.Designator.the-variants.{Blank, Piece}
 use Rattle.tle.specs.declared.Line.the-variants.{One, Two}
-use Rattle.tle_writer.specs.Field.{place, lead, digits, right, dayPlaces, fraction, scaled, designator}
+use Rattle.tle_writer.specs.Field.{place, lead, digits, numberPlaces, right, dayPlaces, fraction, scaled, designator}
 use Rattle.tle_writer.specs.Lines.{join, bodyOf, closedOf, lineOf}
 use Rattle.tle_writer.proofs.Bodies.{zero-of, launch-of, first-of, second-of, third-of, places}
 use Rattle.tle_writer.proofs.Facts.{Facts, both, day-below}
 use Rattle.tle_writer.proofs.Values.{digits-value, right-value, degrees-value, motion-value, day-value, year-value, class-value, written-value, mantissa-value, exponent-value}
+use Rattle.tle_writer.proofs.Numbers.{numbers-read-back}
 
 -- line 1 with the eight bytes of a designator
 abbrev with1 : List ℕ → Record → List ℕ
 with1 d r = closedOf (join (
-    bytes "1 " ∷ digits 5 (r .number) ∷ (letter (r .class) ∷ [])
+    bytes "1 " ∷ numberPlaces (r .number) ∷ (letter (r .class) ∷ [])
     ∷ bytes " " ∷ d
     ∷ bytes " " ∷ digits 2 (r .year % 100) ∷ dayPlaces (r .day)
     ∷ bytes " " ∷ fraction (r .ndot)
@@ -65,7 +66,7 @@ designator-value (Piece n a b c) h =
 flat : (r : Record) → Facts r → fieldsOf (with1 (marks (r .designator)) r) (lineOf Two r) ≡ r
 unfolding fieldsOf numberAt designatorAt ndotAt scaledAt dayAt motionAt degreesAt lineOf bodyOf closedOf join lead
 flat r k = λ i. record {
-  number = digits-value 5 (r .number) (k .number) i;
+  number = numbers-read-back (r .number) (k .number) i;
   class = class-value (r .class) i;
   designator = designator-value (r .designator) (k .designator) i;
   year = year-value (r .year) (k .yearLow) (k .yearHigh) i;

@@ -12,7 +12,7 @@ use Rattle.tle.specs.Legal.{legal, inLayout, inRanges, designatorFits, scaledFi
 use Rattle.tle.specs.declared.Record.{Record}
 
 pub record Facts (r : Record) : Type 0 where
-  pub number : r .number < 10 ^ 5
+  pub number : r .number < 340000
   pub designator : designatorFits (r .designator) ≡ true
   pub yearLow : 1957 ≤ r .year
   pub yearHigh : r .year ≤ 2056
@@ -55,7 +55,7 @@ pub facts : (r : Record) → legal r ≡ true → Facts r
 unfolding legal inLayout inRanges
 facts r h =
     let t = both (inLayout r) (inRanges r) h in
-    let l = each (ltb (r .number) 100000) (designatorFits (r .designator) ∷ leb 1957 (r .year) ∷ leb (r .year) 2056
+    let l = each (ltb (r .number) 340000) (designatorFits (r .designator) ∷ leb 1957 (r .year) ∷ leb (r .year) 2056
     ∷ ltb (natAbs (r .ndot)) 100000000 ∷ scaledFits (r .nddot) ∷ scaledFits (r .bstar) ∷ ltb (r .ephemeris) 10
     ∷ ltb (r .element) 10000 ∷ ltb (r .eccentricity) 10000000 ∷ ltb (r .motion) 10000000000 ∷ ltb (r .revolution) 100000 ∷ []) (t .0) in
     let m = l .1 .1 .1 .1 in

@@ -7,9 +7,10 @@ use native.Mathlib.Omega.{arith}
 use borrow.Author.Tests.{eqb-true, eq-eqb, ne-eqb, le-leb, leb-true}
 use lib.Dec.{eqb, leb, ltb}
 use lib.IntN.{ℤ, pos, negsuc, natAbs}
-use lib.ListN.{length}
+use lib.ListN.{length, getD}
 use Rattle.text.specs.Output.{bytes}
 use Rattle.columns.specs.Layout.{isDigit, isLetter, isBlank, fits, agreed}
+use Rattle.columns.specs.FirstPlace.{firstPlaces}
 use Rattle.tle.specs.Legal.{designatorFits}
 use Rattle.tle.specs.Read.{letter}
 use Rattle.tle.specs.declared.Class.{Class}
@@ -17,7 +18,9 @@ use Rattle.tle.specs.declared.Class.the-variants.{Unclassified, Classified, Sec
 use Rattle.tle.specs.declared.Designator.{Designator}
 use Rattle.tle.specs.declared.Designator.the-variants.{Blank, Piece}
 use Rattle.tle.specs.declared.Scaled.{Scaled}
-use Rattle.tle_writer.specs.Field.{place, lead, right, digits, pointed, dayPlaces, sign, fraction, exponentSign, scaled, designator}
+use Rattle.tle_writer.specs.Field.{place, lead, right, digits, numberPlaces, pointed, dayPlaces, sign, fraction, exponentSign, scaled, designator}
+use Rattle.columns.proofs.FirstPlaces.{place-opens}
+use Rattle.tle.proofs.FirstPlaces.{fits-N}
 use Rattle.tle_writer.proofs.Facts.{both}
 
 infixr 20 _then_
@@ -67,7 +70,7 @@ pub point : Field (bytes ".") (bytes ".")
 point a = refl then end
 
 -- what a class asks, by itself
-fits-D : (a : Bool) (b : ℕ) → fits 68 a b ≡ isDigit b
+pub fits-D : (a : Bool) (b : ℕ) → fits 68 a b ≡ isDigit b
 fits-D a b = simp (and-false, or-false)
 
 fits-R : (a : Bool) (b : ℕ) → fits 82 a b ≡ (isBlank b || isDigit b)
@@ -130,6 +133,10 @@ pub digits-keep : (w n : ℕ) → Field (alls w) (digits w n)
 unfolding alls lead
 digits-keep zero n = none
 digits-keep (suc w) n = digits-keep w (n / 10) ⊳ one (λ a. fits-D a (place 48 n) ∙ is-place n)
+
+pub number-keeps : (n : ℕ) → n < 340000 → Field (bytes "N" ++ alls 4) (numberPlaces n)
+number-keeps n h =
+    one (λ a. fits-N a (getD firstPlaces (n / 10 ^ 4) 0) ∙ place-opens (n / 10 ^ 4) (omega arith)) ⊳ digits-keep 4 (n % 10 ^ 4)
 
 leads-keep : (w n : ℕ) → Field (leads w) (lead 32 w n)
 unfolding leads lead

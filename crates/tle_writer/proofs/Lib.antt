@@ -6,6 +6,7 @@ pub mod Front
 pub mod Writes
 pub mod Facts
 pub mod Values
-pub mod Back
 pub mod Keeps
+pub mod Numbers
+pub mod Back
 pub mod Round

@@ -28,7 +28,7 @@ use Rattle.tle_writer.proofs.Writes.{length-line}
 use Rattle.tle_writer.proofs.Facts.{Facts, facts}
 use Rattle.tle_writer.proofs.Values.{place-value}
 use Rattle.tle_writer.proofs.Back.{fields-back}
-use Rattle.tle_writer.proofs.Keeps.{Field, end, _then_, _⊳_, none, blank, keeps-agreed, alls, leads, digits-keep, right-keep, pointed-keep, day-keeps, fraction-keeps, scaled-keeps, letter-keeps, designator-keeps}
+use Rattle.tle_writer.proofs.Keeps.{Field, end, _then_, _⊳_, none, blank, keeps-agreed, alls, leads, digits-keep, number-keeps, right-keep, pointed-keep, day-keeps, fraction-keeps, scaled-keeps, letter-keeps, designator-keeps}
 
 start1 : Field (bytes "1 ") (bytes "1 ")
 start1 a = refl then refl then end
@@ -40,7 +40,7 @@ start2 a = refl then refl then end
 keeps1 : (r : Record) → Facts r → Field layout1 (lineOf One r)
 unfolding lineOf closedOf bodyOf join alls leads
 keeps1 r k =
-    (start1 ⊳ digits-keep 5 (r .number) ⊳ letter-keeps (r .class)
+    (start1 ⊳ number-keeps (r .number) (k .number) ⊳ letter-keeps (r .class)
     ⊳ blank ⊳ designator-keeps (r .designator) (k .designator)
     ⊳ blank ⊳ digits-keep 2 (r .year % 100) ⊳ day-keeps (r .day)
     ⊳ blank ⊳ fraction-keeps (r .ndot)
@@ -49,10 +49,10 @@ keeps1 r k =
     ⊳ blank ⊳ digits-keep 1 (r .ephemeris) ⊳ blank ⊳ right-keep 3 (r .element) ⊳ none)
     ⊳ digits-keep 1 (sum (bodyOf One r) % 10)
 
-keeps2 : (r : Record) → Field layout2 (lineOf Two r)
+keeps2 : (r : Record) → Facts r → Field layout2 (lineOf Two r)
 unfolding lineOf closedOf bodyOf join alls leads
-keeps2 r =
-    (start2 ⊳ digits-keep 5 (r .number)
+keeps2 r k =
+    (start2 ⊳ number-keeps (r .number) (k .number)
     ⊳ blank ⊳ pointed-keep 2 4 (r .inclination)
     ⊳ blank ⊳ pointed-keep 2 4 (r .node)
     ⊳ blank ⊳ digits-keep 7 (r .eccentricity)
@@ -64,7 +64,7 @@ keeps2 r =
 
 agreed-all : (which : Line) (r : Record) → Facts r → agreed (layoutOf which) true (lineOf which r) ≡ 69
 agreed-all One r k = keeps-agreed (keeps1 r k true)
-agreed-all Two r k = keeps-agreed (keeps2 r true)
+agreed-all Two r k = keeps-agreed (keeps2 r k true)
 
 pub lawful : WrittenAreLawful
 lawful One r h = (length-line One r, agreed-all One r (facts r h))

@@ -1,15 +1,20 @@
--- What is claimed of the lines that are written. Proved in proofs/Round.antt and proofs/Writes.antt.
+-- What is claimed of the lines that are written. Proved in proofs/Round.antt, proofs/Writes.antt and proofs/Numbers.antt.
+use Prim.Native.Nat.{ℕ, _<_}
 use mathlib.Core.Path.{_≡_}
 use mathlib.Core.Bool.{true}
+use mathlib.Core.List.{List}
 use lib.ListN.{length}
+use Rattle.text.specs.Output.{bytes}
 use Rattle.columns.specs.Layout.{Lawful}
 use Rattle.tle.specs.Claims.{layoutOf}
+use Rattle.tle.specs.Catalogue.{catalogueOf}
 use Rattle.tle.specs.Legal.{legal}
 use Rattle.tle.specs.Read.{readOf}
 use Rattle.tle.specs.declared.Record.{Record}
 use Rattle.tle.specs.declared.Line.{Line}
 use Rattle.tle.specs.declared.Line.the-variants.{One, Two}
 use Rattle.tle.specs.declared.Reading.the-variants as reading
+use Rattle.tle_writer.specs.Field.{numberPlaces}
 use Rattle.tle_writer.specs.Lines.{lineOf}
 
 -- demand 2: a legal record written and read is that record
@@ -23,3 +28,11 @@ WrittenAreLawful = (which : Line) (r : Record) → legal r ≡ true → Lawful (
 -- each line is 69 bytes, of any record
 abbrev pub LinesLong : Type 0
 LinesLong = (which : Line) (r : Record) → length (lineOf which r) ≡ 69
+
+-- document 02, wish 1: the five places of a catalogue number up to 339999 show that number
+abbrev pub NumbersReadBack : Type 0
+NumbersReadBack = (n : ℕ) → n < 340000 → catalogueOf (numberPlaces n) ≡ n
+
+-- and five lawful places are those that are written of their number: it has no other form
+abbrev pub PlacesWrittenBack : Type 0
+PlacesWrittenBack = (places : List ℕ) → Lawful (bytes "NDDDD") places → numberPlaces (catalogueOf places) ≡ places

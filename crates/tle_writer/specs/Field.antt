@@ -5,7 +5,9 @@ use mathlib.Core.Bool.{cond}
 use Prim.Native.Char.{code}
 use lib.Dec.{eqb}
 use lib.IntN.{ℤ, pos, negsuc, natAbs}
+use lib.ListN.{getD}
 use Rattle.text.specs.Output.{bytes}
+use Rattle.columns.specs.FirstPlace.{firstPlaces}
 use Rattle.tle.specs.declared.Designator.{Designator}
 use Rattle.tle.specs.declared.Designator.the-variants.{Blank, Piece}
 use Rattle.tle.specs.declared.Scaled.{Scaled}
@@ -22,6 +24,10 @@ lead z (suc w) n = lead z w (n / 10) ++ (place z n ∷ [])
 -- w digits
 abbrev pub digits : ℕ → ℕ → List ℕ
 digits w n = lead (code "0") w n
+
+-- a catalogue number: a digit or the letter that stands for 10 to 33, and four digits
+abbrev pub numberPlaces : ℕ → List ℕ
+numberPlaces n = (getD firstPlaces (n / 10 ^ 4) 0 ∷ []) ++ digits 4 (n % 10 ^ 4)
 
 -- right-set in w + 1 places: blanks for leading zeros, and a digit in the last place
 abbrev pub right : ℕ → ℕ → List ℕ

@@ -7,7 +7,7 @@ use Rattle.tle.specs.Read.{letter}
 use Rattle.tle.specs.declared.Record.{Record}
 use Rattle.tle.specs.declared.Line.{Line}
 use Rattle.tle.specs.declared.Line.the-variants.{One, Two}
-use Rattle.tle_writer.specs.Field.{digits, right, pointed, dayPlaces, fraction, scaled, designator}
+use Rattle.tle_writer.specs.Field.{digits, numberPlaces, right, pointed, dayPlaces, fraction, scaled, designator}
 
 -- pieces side by side
 unfoldable pub join : List (List ℕ) → List ℕ
@@ -17,7 +17,7 @@ join (x ∷ xs) = x ++ join xs
 -- line 1, columns 1 to 68; a year by its last two digits
 abbrev pub pieces1 : Record → List (List ℕ)
 pieces1 r =
-    bytes "1 " ∷ digits 5 (r .number) ∷ (letter (r .class) ∷ [])  -- 1; 3-7; 8
+    bytes "1 " ∷ numberPlaces (r .number) ∷ (letter (r .class) ∷ [])  -- 1; 3-7; 8
     ∷ bytes " " ∷ designator (r .designator)  -- 10-17
     ∷ bytes " " ∷ digits 2 (r .year % 100) ∷ dayPlaces (r .day)  -- 19-20; 21-32
     ∷ bytes " " ∷ fraction (r .ndot)  -- 34-43
@@ -29,7 +29,7 @@ pieces1 r =
 -- line 2, columns 1 to 68
 abbrev pub pieces2 : Record → List (List ℕ)
 pieces2 r =
-    bytes "2 " ∷ digits 5 (r .number)  -- 1; 3-7
+    bytes "2 " ∷ numberPlaces (r .number)  -- 1; 3-7
     ∷ bytes " " ∷ pointed 2 4 (r .inclination)  -- 9-16
     ∷ bytes " " ∷ pointed 2 4 (r .node)  -- 18-25
     ∷ bytes " " ∷ digits 7 (r .eccentricity)  -- 27-33

@@ -3,8 +3,9 @@
 ghost use mathlib.Core.Path.{_≡_};
 ghost use mathlib.Core.List.{[], _∷_};
 ghost use Prim.Native.Nat.{_+_, _^_, _≤_};
-ghost use lib.ListN.{length};
-ghost use Rattle.tle_writer.specs.Field.{place, lead, right, pointed, dayPlaces, sign, fraction, exponentSign, scaled, designator};
+ghost use lib.ListN.{length, getD};
+ghost use Rattle.columns.specs.FirstPlace.{firstPlaces};
+ghost use Rattle.tle_writer.specs.Field.{place, lead, numberPlaces, right, pointed, dayPlaces, sign, fraction, exponentSign, scaled, designator};
 ghost use Rattle.tle_writer.specs.Over.{Put};
 use integers::magnitude;
 use tle::Designator;
@@ -44,6 +45,17 @@ pub(crate) fn put_at(line: [u8; 69], at: usize, w: usize, z: u8, n: u64) -> [u8;
     l
 }
 
+// The first place of a catalogue number: a digit, or the letter that stands for 10 to 33.
+fn first_place_of(n: u64) -> u8
+    ensures { λ r. ⌜ r ≡ getD firstPlaces n 0 ⌝ }
+{
+    let places = b"0123456789ABCDEFGHJKLMNPQRSTUVWXYZ";
+    if 34 <= n {
+        return 0;
+    }
+    places[n as usize]
+}
+
 fn sign_of(x: i64) -> u8
     ensures { λ r. ⌜ r ≡ sign x ⌝ }
 {
@@ -71,6 +83,14 @@ pub(crate) fn put_byte(line: [u8; 69], at: usize, b: u8) -> [u8; 69]
     let mut l = line;
     l[at] = b;
     l
+}
+
+pub(crate) fn put_number(line: [u8; 69], at: usize, n: u64) -> [u8; 69]
+    requires { ⌜ at + 5 ≤ 69 ⌝ }
+    ensures { λ r. ⌜ Put at 5 (numberPlaces n) line r ⌝ }
+{
+    let l = put_byte(line, at, first_place_of(n / 10000));
+    put_at(l, at + 1, 4, b'0', n % 10000)
 }
 
 pub(crate) fn put_right(line: [u8; 69], at: usize, w: usize, n: u64) -> [u8; 69]

@@ -11,6 +11,7 @@ use super::fields::put_byte;
 use super::fields::put_day;
 use super::fields::put_designator;
 use super::fields::put_fraction;
+use super::fields::put_number;
 use super::fields::put_pointed;
 use super::fields::put_right;
 use super::fields::put_scaled;
@@ -36,7 +37,7 @@ fn body1(r: Record) -> [u8; 69]
     let bstar = r.bstar;
     let l = [b' '; 69];
     let l = put_byte(l, 0, b'1');
-    let l = put_at(l, 2, 5, b'0', r.number);
+    let l = put_number(l, 2, r.number);
     let l = put_byte(l, 7, class.letter());
     let l = put_designator(l, 9, d);
     let l = put_at(l, 18, 2, b'0', r.year % 100);
@@ -54,7 +55,7 @@ fn body2(r: Record) -> [u8; 69]
 {
     let l = [b' '; 69];
     let l = put_byte(l, 0, b'2');
-    let l = put_at(l, 2, 5, b'0', r.number);
+    let l = put_number(l, 2, r.number);
     let l = put_pointed(l, 8, 2, 4, 10000, r.inclination);
     let l = put_pointed(l, 17, 2, 4, 10000, r.node);
     let l = put_at(l, 26, 7, b'0', r.eccentricity);

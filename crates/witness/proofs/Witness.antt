@@ -16,6 +16,8 @@ use Rattle.instant.specs.Greenwich.{epochDaysOf, julianOf, rate, siderealOf, qu
 use Rattle.columns.specs.Layout.{agreed}
 use Rattle.columns.specs.Sum.{digitOf, sum}
 use Rattle.tle.specs.Number as number
+use Rattle.columns.specs.FirstPlace.{position, firstOf}
+use Rattle.tle.specs.Catalogue.{catalogueOf}
 use Rattle.tle.specs.Legal.{inRanges, designatorFits, scaledFits, inLayout, legal}
 use Rattle.tle.specs.Read.{verdictOf, numberAt, pairOf, classOf, designatorAt, yearOf, ndotAt, scaledAt, dayAt, motionAt, degreesAt, fieldsOf, formOf, rangesOf, readOf}
 use Rattle.wgs72.specs.Getgravconst.{xke, j3oj2}
@@ -53,7 +55,7 @@ kindIn (pair.Refused why) = 0
 computed : (kindIn (openPairOf (italsat .line1) (italsat .line2)) ≡ 1) × (kindIn (openPairOf (molniya .line1) (molniya .line2)) ≡ 2)
 unfolding kindIn irez integratorOf integratorBy
     openPairOf afterReading opened openOf dated started above checked finiteRecord finiteMethod finiteDeep newly modelOf
-    readOf formOf rangesOf pairOf verdictOf agreed fieldsOf numberAt classOf designatorAt yearOf ndotAt scaledAt dayAt motionAt degreesAt
+    readOf formOf rangesOf pairOf verdictOf agreed fieldsOf numberAt catalogueOf firstOf position classOf designatorAt yearOf ndotAt scaledAt dayAt motionAt degreesAt
     digitOf sum number.valueOn number.minus number.signed
     legal inLayout inRanges designatorFits scaledFits
     epochOf epochMicros yearInRange dayInRange lastDay daysBefore daysIn epochDaysOf julianOf gstimeOf greenwichOf siderealOf rate quadrant

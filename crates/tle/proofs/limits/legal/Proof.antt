@@ -5,7 +5,7 @@ use Rattle.tle.proofs.limits.legal.Tie as tie
 
 returns : tie.Need-returns
 unfolding legal
-returns c = cc
+returns c = rw (c .in-ranges .ensures, c .before .in-layout .ensures)
 
 pub legal-spec : {M : Type 1} → statement M
 legal-spec = tie.close (tie.spec

@@ -10,4 +10,4 @@ piece-fits-spec =
     (λ c κs. search needs)
     (λ c κs. search needs)
     (λ c κs. search needs)
-    (λ c. cc))
+    (λ c. rw (c .is-letter4 .ensures, c .before .is-letter3 .ensures, c .before .before .is-letter2 .ensures, c .before .before .before .is-letter .ensures)))

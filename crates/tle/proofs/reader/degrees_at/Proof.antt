@@ -5,7 +5,7 @@ use Rattle.tle.proofs.reader.degrees_at.Tie as tie
 
 returns : tie.Need-returns
 unfolding degreesAt
-returns c = cc
+returns c = rw (c .field-at2 .ensures .0, c .before .field-at .ensures .0)
 
 pub degrees-at-spec : {M : Type 1} → statement M
 degrees-at-spec =

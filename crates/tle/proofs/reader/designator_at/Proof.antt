@@ -10,7 +10,7 @@ returns c = simp (eq-eqb _ _ (c .if1 .taken))
 
 returns-2 : tie.Need-returns-2
 unfolding designatorAt
-returns-2 c = simp (ne-eqb _ _ (c .before .before .before .before .if1 .left)) (cc)
+returns-2 c = simp (ne-eqb _ _ (c .before .before .before .before .if1 .left), c .before .before .before .field-at .ensures .0)
 
 pub designator-at-spec : {M : Type 1} → statement M
 designator-at-spec =

@@ -5,7 +5,7 @@ use Rattle.tle.proofs.reader.motion_at.Tie as tie
 
 returns : tie.Need-returns
 unfolding motionAt
-returns c = cc
+returns c = rw (c .field-at2 .ensures .0, c .before .field-at .ensures .0)
 
 pub motion-at-spec : {M : Type 1} → statement M
 motion-at-spec =

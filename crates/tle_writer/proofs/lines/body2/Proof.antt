@@ -13,10 +13,10 @@ returns c =
     c .before .put-pointed5 .ensures .is ∙ ap (over 52 11 _) (
     c .before .before .put-pointed4 .ensures .is ∙ ap (over 43 8 _) (
     m .put-pointed3 .ensures .is ∙ ap (over 34 8 _) (
-    m .before .put-at2 .ensures .is ∙ ap (over 26 7 _) (
+    m .before .put-at .ensures .is ∙ ap (over 26 7 _) (
     m .before .before .put-pointed2 .ensures .is ∙ ap (over 17 8 _) (
     n .put-pointed .ensures .is ∙ ap (over 8 8 _) (
-    n .before .put-at .ensures .is ∙ ap (over 2 5 _) (
+    n .before .put-number .ensures .is ∙ ap (over 2 5 _) (
     n .before .before .put-byte .ensures .is))))))))
     ∙ built2 (n .before .before .before .args .r)
 
