@@ -8,7 +8,7 @@ use crate::library::{Library, Opened};
 use crate::random::Random;
 use crate::request::{Row, Satellite, Saved};
 use crate::sgp4::{self, Elements};
-use crate::tle::{self, Record};
+use crate::tle::{self, Record, Refusal};
 use std::collections::BTreeMap;
 
 /// How often each thing was met, by name.
@@ -289,6 +289,9 @@ fn compare_pair(
         Ok(()) => tally.add("read: accepted", 1),
         Err(refusal) => tally.add(format!("read: refusal {}", refusal.number()), 1),
     }
+    if let Err(Refusal::Layout { line, column: 3 }) = a {
+        tally.add(format!("read: no catalogue number in line {line}"), 1);
+    }
     same_or("reading", a == b, &a, &b)?;
     let (a, b) = (one.epoch(line1, line2), other.epoch(line1, line2));
     same_or("epoch", a == b, &a, &b)?;
@@ -298,6 +301,9 @@ fn compare_pair(
     let (a, b) = (one.record(line1, line2), other.record(line1, line2));
     same_or("record", a == b, &a, &b)?;
     if let Ok(record) = a {
+        if record.number >= 100_000 {
+            tally.add("read: catalogue number with a letter", 1);
+        }
         write_both(random, &record, libraries, tally)?;
     }
     match (one.open(line1, line2), other.open(line1, line2)) {

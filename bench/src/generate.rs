@@ -94,7 +94,7 @@ fn anything(random: &mut Random) -> Record {
         _ => random.between(1_0000_0000, 366_9999_9999) as u64,
     };
     Record {
-        number: random.below(100_000) as u32,
+        number: random.below(340_000) as u32,
         classification: *random.pick(b"UCS"),
         designator: designator(random),
         year: random.between(1957, 2056) as u16,
@@ -229,7 +229,7 @@ fn spoil(random: &mut Random, record: &mut Record) {
     let exponent = |limit: i64| near(limit).clamp(-128, 127) as i8;
     let side = *random.pick(&[-1, 1]);
     match random.below(17) {
-        0 => record.number = whole(99_999),
+        0 => record.number = *random.pick(&[whole(99_999), whole(339_999)]),
         1 => record.classification = random.next_u64() as u8,
         2 => {
             record.designator[..5].copy_from_slice(b"58002");
@@ -316,8 +316,11 @@ pub fn pair(random: &mut Random, aim: Aim) -> (Line, Line) {
     lines
 }
 
+/// First places of a catalogue number, and I, O, lower case and other bytes that are none.
+const FIRST_PLACES: &[u8] = b"019ABHIJKNOPQZabhijkopz @[";
+
 /// Bytes that look lawful somewhere, and others that never are.
-const LAYOUT_BYTES: &[u8] = b"0123456789 +-.UCSABZ";
+const LAYOUT_BYTES: &[u8] = b"0123456789 +-.UCSABIJOZaioz";
 
 fn damage_once(random: &mut Random, line: &mut Vec<u8>) {
     let column = random.below(line.len().max(1) as u64) as usize;
@@ -380,6 +383,10 @@ pub fn damaged_pair(random: &mut Random) -> (Vec<u8>, Vec<u8>) {
     if random.one_in(16) {
         let which = random.below(2) as usize;
         lines[which][2 + random.below(5) as usize] = b'0' + random.below(10) as u8;
+    }
+    if random.one_in(16) {
+        let which = random.below(2) as usize;
+        lines[which][2] = *random.pick(FIRST_PLACES);
     }
     if !random.one_in(8) {
         for _ in 0..1 + random.below(4) * random.below(2) {

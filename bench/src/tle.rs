@@ -1,4 +1,5 @@
-//! Two-line element sets (document 01, "The two lines" and "One pair, printed").
+//! Two-line element sets (document 01, "The two lines" and "One pair, printed"), with letters in
+//! catalogue numbers (document 02, wish 1).
 
 use crate::instant;
 
@@ -76,6 +77,21 @@ pub struct Record {
     pub revolution: u32,
 }
 
+/// Letters that stand for no first place of a catalogue number.
+const LEFT_OUT: [u8; 2] = [b'I', b'O'];
+
+/// What the first place of a catalogue number stands for: a digit itself, A-Z without I and O 10 to 33.
+fn first_place(byte: u8) -> Option<u32> {
+    match byte {
+        b'0'..=b'9' => Some((byte - b'0') as u32),
+        b'A'..=b'Z' if !LEFT_OUT.contains(&byte) => {
+            let earlier = LEFT_OUT.iter().filter(|&&letter| letter < byte).count() as u32;
+            Some(10 + (byte - b'A') as u32 - earlier)
+        }
+        _ => None,
+    }
+}
+
 // ---------------------------------------------------------------- reading
 
 /// Walks a line from the left and remembers the first column that breaks the layout.
@@ -114,6 +130,13 @@ impl<'a> Columns<'a> {
     /// Digits after those already read.
     fn digits(&mut self, count: usize, before: u64) -> Result<u64, Refusal> {
         (0..count).try_fold(before, |n, _| Ok(10 * n + self.digit()?))
+    }
+
+    /// A first place and four digits.
+    fn catalogue(&mut self) -> Result<u32, Refusal> {
+        let first = first_place(self.line[self.next]).ok_or_else(|| self.refuse())?;
+        self.next += 1;
+        Ok(self.digits(4, first as u64)? as u32)
     }
 
     /// Right-set places: blanks, then digits to the last place.
@@ -204,7 +227,7 @@ fn close(mut columns: Columns<'_>) -> Result<(), Refusal> {
 fn read_line_1(line: &[u8], record: &mut Record) -> Result<(), Refusal> {
     let mut c = columns(line, 1)?;
     c.blank()?;
-    record.number = c.digits(5, 0)? as u32;
+    record.number = c.catalogue()?;
     record.classification = c.take(|b| matches!(b, b'U' | b'C' | b'S'))?;
     c.blank()?;
     record.designator = c.designator()?;
@@ -233,7 +256,7 @@ fn read_line_1(line: &[u8], record: &mut Record) -> Result<(), Refusal> {
 fn read_line_2(line: &[u8], record: &mut Record) -> Result<u32, Refusal> {
     let mut c = columns(line, 2)?;
     c.blank()?;
-    let number = c.digits(5, 0)? as u32;
+    let number = c.catalogue()?;
     c.blank()?;
     record.inclination = c.decimal(3, 4)? as u32;
     c.blank()?;
@@ -320,7 +343,7 @@ fn lawful_designator(text: &[u8; 8]) -> bool {
 impl Record {
     /// Inside layout and ranges; refusal 16 otherwise.
     pub fn lawful(&self) -> bool {
-        self.number <= 99_999
+        self.number <= 339_999
             && matches!(self.classification, b'U' | b'C' | b'S')
             && lawful_designator(&self.designator)
             && (1957..=2056).contains(&self.year)
@@ -360,6 +383,18 @@ fn exponential_text(x: Exponential) -> String {
     )
 }
 
+/// Five digits, or from 100000 on a letter for the first two.
+fn catalogue_text(number: u32) -> String {
+    let mut letters = (b'A'..=b'Z').filter(|letter| !LEFT_OUT.contains(letter));
+    match number / 10_000 {
+        0..=9 => format!("{number:05}"),
+        first => {
+            let letter = letters.nth(first as usize - 10).expect("a lawful record") as char;
+            format!("{letter}{:04}", number % 10_000)
+        }
+    }
+}
+
 fn decimal_text(n: u64, width: usize, decimals: u32) -> String {
     let unit = 10u64.pow(decimals);
     format!("{:width$}.{:0places$}", n / unit, n % unit, places = decimals as usize)
@@ -379,8 +414,8 @@ pub fn write(record: &Record, which: u8, room: &mut [u8]) -> Result<(), u8> {
     }
     let text = if which == 1 {
         format!(
-            "1 {:05}{} {} {:02}{:03}.{:08} {}.{:08} {} {} {} {:4}",
-            record.number,
+            "1 {}{} {} {:02}{:03}.{:08} {}.{:08} {} {} {} {:4}",
+            catalogue_text(record.number),
             record.classification as char,
             String::from_utf8_lossy(&record.designator),
             record.year % 100,
@@ -395,8 +430,8 @@ pub fn write(record: &Record, which: u8, room: &mut [u8]) -> Result<(), u8> {
         )
     } else {
         format!(
-            "2 {:05} {} {} {:07} {} {} {}{:5}",
-            record.number,
+            "2 {} {} {} {:07} {} {} {}{:5}",
+            catalogue_text(record.number),
             angle_text(record.inclination),
             angle_text(record.node),
             record.eccentricity,
@@ -472,5 +507,46 @@ mod tests {
         assert_eq!(write(&record, 1, &mut [0; 68]), Err(17));
         let zero = Exponential { mantissa: 0, exponent: 3 };
         assert!(!Record { bstar: zero, ..record }.lawful());
+    }
+
+    /// The example with other bytes from column 3 on, its checksums mended.
+    fn numbered(text: &[u8]) -> [Vec<u8>; 2] {
+        [LINE1, LINE2].map(|line| {
+            let mut line = line.to_vec();
+            line[2..2 + text.len()].copy_from_slice(text);
+            line[LENGTH - 1] = b'0' + checksum(&line);
+            line
+        })
+    }
+
+    #[test]
+    fn letters_in_catalogue_numbers() {
+        let ends: [(&[u8], u32); 7] = [
+            (b"99999", 99_999),
+            (b"A0000", 100_000),
+            (b"H9999", 179_999),
+            (b"J0000", 180_000),
+            (b"N9999", 229_999),
+            (b"P0000", 230_000),
+            (b"Z9999", 339_999),
+        ];
+        for (text, number) in ends {
+            let [one, two] = numbered(text);
+            let record = read(&one, &two).unwrap();
+            assert_eq!(record.number, number);
+            assert_eq!(
+                (written(&record, 1).unwrap().to_vec(), written(&record, 2).unwrap().to_vec()),
+                (one, two)
+            );
+        }
+        for byte in *b"IOaioz @[" {
+            let [one, two] = numbered(&[byte]);
+            assert_eq!(read(&one, LINE2), Err(Refusal::Layout { line: 1, column: 3 }));
+            assert_eq!(read(LINE1, &two), Err(Refusal::Layout { line: 2, column: 3 }));
+        }
+        let (letter, digits) = (numbered(b"A0000"), numbered(b"00000"));
+        assert_eq!(read(&letter[0], &digits[1]), Err(Refusal::Numbers));
+        let record = read(LINE1, LINE2).unwrap();
+        assert_eq!(written(&Record { number: 340_000, ..record }, 1), Err(16));
     }
 }

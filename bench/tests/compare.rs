@@ -55,6 +55,9 @@ fn port_against_the_proved_library() {
         "read: refusal 4",
         "read: refusal 5",
         "read: refusal 6",
+        "read: catalogue number with a letter",
+        "read: no catalogue number in line 1",
+        "read: no catalogue number in line 2",
         "row: refusal  0",
         "row: refusal  9",
         "row: refusal 11",
@@ -399,7 +402,7 @@ fn found(slip: Slip, at: u64) -> String {
     let (port, slipping) = (Port::<Document>::new(), Slipping { slip, at });
     let libraries: (&dyn Library, &dyn Library) = (&port, &slipping);
     let mut tally = Tally::default();
-    for index in 0..400 {
+    for index in 0..4000 {
         let whole = whole_case(SEED, index, libraries, &mut tally);
         let other = whole.and_then(|()| damaged_case(SEED, index, libraries, &mut tally));
         let other = other.and_then(|()| handed_case(SEED, index, libraries, &mut tally));
