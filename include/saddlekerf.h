@@ -146,10 +146,12 @@ enum saddlekerf_field_number {
 
 /*
  * The numbers of a record: each field a whole number in its last decimal place.
- * A blank designator has the launch 0 and three blanks.
+ * A blank designator has the launch 0 and three blanks. The catalogue number is a plain number; in a
+ * line its first place is a digit or, standing for 10 to 33, a letter A-Z without I and O (Alpha-5):
+ * A0000 is 100000, Z9999 is 339999.
  */
 enum saddlekerf_record_field {
-    SADDLEKERF_RECORD_NUMBER = 0,         /* catalogue number, 0 to 99999 */
+    SADDLEKERF_RECORD_NUMBER = 0,         /* catalogue number, 0 to 339999: from 100000 on with a letter */
     SADDLEKERF_RECORD_CLASS = 1,          /* the byte 'U', 'C' or 'S' */
     SADDLEKERF_RECORD_LAUNCH = 2,         /* designator: launch year and number, five digits, 58002 */
     SADDLEKERF_RECORD_PIECE = 3,          /* designator: three bytes (3, 4, 5), 'A' to 'Z', then ' ' */
@@ -247,7 +249,8 @@ uint64_t saddlekerf_record(const uint8_t *line1, size_t line1_length,
 /*
  * Writes line 1 or 2 of a record: 69 bytes at the front of out, with no 0 byte after them; what lies
  * past them stays. Leading zeros are written as blanks where the layout allows it, a plus in front
- * of a number as a blank, the exponent 0 as -0. Both lines read as this record again.
+ * of a number as a blank, the exponent 0 as -0, and the first two digits of a catalogue number of six
+ * as a letter. Both lines read as this record again.
  * Answer: 17 where fields has fewer than 22 elements; 16 where the record, judged as a whole, is
  * outside layout or ranges, or line is neither 1 nor 2; 17 where out has fewer than 69 bytes; else 0
  * with the 69 bytes written.

@@ -228,6 +228,34 @@ static void write_record(void)
     }
 }
 
+/* A catalogue number with a letter: read, printed and written; I is none. */
+static void letters(void)
+{
+    static const char one[] = "1 Z9999U 58002B   00179.78495062  .00000023  00000-0  28098-4 0  4754";
+    static const char two[] = "2 Z9999  34.2682 348.7242 1859667 331.7664  19.3264 10.82419157413668";
+    static const char text[] = "number 339999\n";
+    int64_t fields[SADDLEKERF_FIELDS];
+    uint8_t out[SADDLEKERF_PRINT_ROOM];
+    uint64_t a;
+
+    a = saddlekerf_record(bytes(one), LENGTH, bytes(two), LENGTH, fields, SADDLEKERF_FIELDS);
+    CHECK(a == SADDLEKERF_ANSWERED);
+    CHECK(fields[SADDLEKERF_RECORD_NUMBER] == 339999);
+    CHECK(saddlekerf_write(fields, SADDLEKERF_FIELDS, 1, out, LENGTH) == (uint64_t)LENGTH << 32);
+    CHECK(memcmp(out, one, LENGTH) == 0);
+    CHECK(saddlekerf_write(fields, SADDLEKERF_FIELDS, 2, out, LENGTH) == (uint64_t)LENGTH << 32);
+    CHECK(memcmp(out, two, LENGTH) == 0);
+    fields[SADDLEKERF_RECORD_NUMBER]++;
+    CHECK(saddlekerf_write(fields, SADDLEKERF_FIELDS, 1, out, LENGTH) == SADDLEKERF_RECORD);
+    a = saddlekerf_print(bytes(one), LENGTH, bytes(two), LENGTH, out, sizeof out);
+    CHECK(saddlekerf_refusal(a) == SADDLEKERF_ANSWERED);
+    CHECK(memcmp(out, text, strlen(text)) == 0);
+    a = read_lines(LINE1, line2_with(3, "I"));
+    CHECK(saddlekerf_refusal(a) == SADDLEKERF_COLUMN);
+    CHECK(saddlekerf_line(a) == 2 && saddlekerf_column(a) == 3);
+    CHECK(read_lines(LINE1, line2_with(3, "A")) == SADDLEKERF_CATALOGUE);
+}
+
 static uint32_t strides_at(saddlekerf_satellite *s, int64_t time)
 {
     double state[SADDLEKERF_STATE];
@@ -549,6 +577,7 @@ int main(int argc, char **argv)
     read_at_the_edges();
     read_record();
     write_record();
+    letters();
     count_strides();
     keep_memory();
     lend_nothing();

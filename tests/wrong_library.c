@@ -85,6 +85,8 @@ uint64_t __wrap_saddlekerf_record(PAIR, int64_t *fields, size_t fields_length)
     const uint64_t a = __real_saddlekerf_record(LENT_PAIR, fields, fields_length);
     if (a == 0 && wrong("record-exchanged"))
         exchange(fields);
+    if (a == 0 && wrong("record-letter")) /* a letter for the digit 0 */
+        fields[SADDLEKERF_RECORD_NUMBER] %= 100000;
     if (a == 0 && fields_length > SADDLEKERF_FIELDS && wrong("record-past"))
         fields[SADDLEKERF_FIELDS] = 0;
     if (a != 0 && fields_length > 0 && wrong("record-refused"))
@@ -110,6 +112,8 @@ uint64_t __wrap_saddlekerf_write(const int64_t *fields, size_t fields_length, ui
     a = __real_saddlekerf_write(fields, fields_length, line, out, out_length);
     if (a >> 32 == SADDLEKERF_LINE && wrong("write-checksum"))
         out[SADDLEKERF_LINE - 1] = '0';
+    if (a >> 32 == SADDLEKERF_LINE && out[2] >= 'A' && wrong("write-letter"))
+        out[2] = '0';
     if (a >> 32 == SADDLEKERF_LINE && out_length > SADDLEKERF_LINE && wrong("write-past"))
         out[SADDLEKERF_LINE] = 0;
     if ((a & 255) != 0 && out_length > 0 && wrong("write-refused"))

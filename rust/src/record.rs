@@ -25,6 +25,12 @@ pub struct Exponential {
 /// assert_eq!((record.inclination, record.bstar.mantissa), (34_2682, 28098));
 /// assert_eq!(record.write()?, [*line1, *line2]);
 ///
+/// // Catalogue numbers from 100000 on have a letter in their first place (Alpha-5): 10 is A, 33 is Z.
+/// record.number = 339_999;
+/// let [line1, line2] = record.write()?;
+/// assert_eq!((&line1[2..8], &line2[2..7]), (b"Z9999U".as_slice(), b"Z9999".as_slice()));
+/// assert_eq!(Record::read(&line1, &line2)?.number, 339_999);
+///
 /// record.inclination = 180_0001;
 /// assert_eq!(record.write(), Err(Refusal::Record));
 /// # Ok(())
@@ -32,7 +38,8 @@ pub struct Exponential {
 /// ```
 #[derive(Clone, Copy, Debug, PartialEq, Eq, Hash)]
 pub struct Record {
-    /// Catalogue number, at most 99999.
+    /// Catalogue number, at most 339999. A line has five digits of it, or from 100000 on a letter A-Z
+    /// without I and O, standing for 10 to 33, and four digits.
     pub number: u32,
     /// Classification: `b'U'`, `b'C'` or `b'S'`.
     pub class: u8,

@@ -1,6 +1,6 @@
 //! Records: read and written again, refused, and what the buffers hold afterwards.
 
-use saddlekerf::{Exponential, Line, Record, Refusal};
+use saddlekerf::{printed, Exponential, Line, Record, Refusal};
 
 const LINE1: &[u8] = b"1 00005U 58002B   00179.78495062  .00000023  00000-0  28098-4 0  4753";
 const LINE2: &[u8] = b"2 00005  34.2682 348.7242 1859667 331.7664  19.3264 10.82419157413667";
@@ -33,7 +33,8 @@ fn the_example() {
     assert_eq!(EXAMPLE.write(), Ok([LINE1.try_into().unwrap(), LINE2.try_into().unwrap()]));
 }
 
-/// The writer's spelling: blanks for leading zeros and for plus, `-0` for the exponent 0.
+/// The writer's spelling: blanks for leading zeros and for plus, `-0` for the exponent 0, a letter for
+/// the first two digits of a catalogue number that has six.
 #[test]
 fn the_writers_spelling() {
     let least = Record {
@@ -64,7 +65,7 @@ fn the_writers_spelling() {
     assert_eq!(least.write(), Ok(mended));
     assert_eq!(Record::read(&mended[0], &mended[1]), Ok(least));
     let most = Record {
-        number: 99_999,
+        number: 339_999,
         class: b'C',
         launch: 99_999,
         piece: *b"ZZZ",
@@ -84,12 +85,59 @@ fn the_writers_spelling() {
         revolution: 99_999,
     };
     let lines = [
-        *b"1 99999C 99999ZZZ 56366.99999999 -.99999999 -99999-9  99999+9 0 99990",
-        *b"2 99999 180.0000 359.9999 9999999 359.9999 359.9999 99.99999999999990",
+        *b"1 Z9999C 99999ZZZ 56366.99999999 -.99999999 -99999-9  99999+9 0 99990",
+        *b"2 Z9999 180.0000 359.9999 9999999 359.9999 359.9999 99.99999999999990",
     ];
     let mended = lines.map(mend);
     assert_eq!(most.write(), Ok(mended));
     assert_eq!(Record::read(&mended[0], &mended[1]), Ok(most));
+}
+
+/// The example with another text from column 3 on, its checksum mended.
+fn numbered(line: &[u8], text: &[u8]) -> [u8; 69] {
+    let mut line: [u8; 69] = line.try_into().unwrap();
+    line[2..2 + text.len()].copy_from_slice(text);
+    mend(line)
+}
+
+/// Wish 1 of document 02: the letters that may stand in the first place, for 10 to 33.
+const LETTERS: &[u8; 24] = b"ABCDEFGHJKLMNPQRSTUVWXYZ";
+
+#[test]
+fn letters_in_catalogue_numbers() {
+    for (first, value) in b"0123456789".iter().chain(LETTERS).zip(0..) {
+        for rest in [0, 5, 9999] {
+            let text = format!("{}{rest:04}", *first as char);
+            let lines = [LINE1, LINE2].map(|line| numbered(line, text.as_bytes()));
+            let record = Record { number: value * 10_000 + rest, ..EXAMPLE };
+            assert_eq!(Record::read(&lines[0], &lines[1]), Ok(record), "{text}");
+            assert_eq!(record.write(), Ok(lines), "{text}");
+            assert!(printed(&lines[0], &lines[1]).starts_with(&format!("number {}\n", record.number)));
+        }
+    }
+    // Numbers that differ only by the letter.
+    for (one, two) in [(b"A0000", b"00000"), (b"A0000", b"10000"), (b"H9999", b"J9999")] {
+        assert_eq!(Record::read(&numbered(LINE1, one), &numbered(LINE2, two)), Err(Refusal::Catalogue));
+    }
+}
+
+#[test]
+fn no_letters_in_catalogue_numbers() {
+    let refused = |line, column| Err(Refusal::Column { line, column });
+    // Any other byte in column 3, of either line.
+    for byte in 0..=255u8 {
+        if !byte.is_ascii_digit() && !LETTERS.contains(&byte) {
+            assert_eq!(Record::read(&numbered(LINE1, &[byte]), LINE2), refused(Line::One, 3), "{byte}");
+            assert_eq!(Record::read(LINE1, &numbered(LINE2, &[byte])), refused(Line::Two, 3), "{byte}");
+        }
+    }
+    for (text, column) in [(b"0A000", 4), (b"A0B00", 5), (b"000C0", 6), (b"0000Z", 7)] {
+        assert_eq!(Record::read(&numbered(LINE1, text), LINE2), refused(Line::One, column));
+    }
+    // A letter adds nothing to the checksum.
+    let [mut one, two] = [LINE1, LINE2].map(|line| numbered(line, b"A0000"));
+    one[68] += 1;
+    assert_eq!(Record::read(&one, &two), Err(Refusal::Checksum { line: Line::One }));
 }
 
 fn mend(mut line: [u8; 69]) -> [u8; 69] {
@@ -108,7 +156,7 @@ fn records_outside_layout_or_ranges() {
     let e = EXAMPLE;
     let exponential = |mantissa, exponent| Exponential { mantissa, exponent };
     let outside = [
-        Record { number: 100_000, ..e },
+        Record { number: 340_000, ..e },
         Record { number: u32::MAX, ..e },
         Record { class: b'u', ..e },
         Record { class: 0, ..e },
