@@ -1,0 +1,148 @@
+-- Both calls keep a roster a roster, and what stands in a place, read, is the record that was lodged.
+use Prim.Native.Nat.{ℕ, zero, suc, _+_, _*_, _<_, _≤_}
+use mathlib.Core.Path.{_≡_, refl, ap, sym, _∙_}
+use mathlib.Core.Bool.{Bool, true, false, cond}
+use mathlib.Core.List.{List, [], _∷_, _++_}
+use mathlib.Core.Option.{Option, none, some, Option·some-injective, Option·none-ne-some}
+use native.Mathlib.Omega.{arith}
+use borrow.Author.Tests.{leb-false}
+use lib.Dec.{leb}
+use lib.ListN.{length, take, drop, getElem?, length-append}
+use Rattle.tle.specs.Legal.{legal}
+use Rattle.tle.specs.Read.{readOf}
+use Rattle.tle.specs.declared.Record.{Record}
+use Rattle.tle.specs.declared.Reading.{Reading}
+use Rattle.tle.specs.declared.Reading.the-variants as reading
+use Rattle.tle.proofs.Accepted.{accepted-are-legal}
+use Rattle.roster.specs.Packed.{packed}
+use Rattle.roster.specs.Records.{Rising, end, next, lookup, lodged, withdrawn}
+use Rattle.roster.specs.Roster.{pairBytes, bytesOf, rosterOf}
+use Rattle.roster.specs.Calls.{ruling, answered, whenLodged, lodgedBy, lodgingOf, lodgedOver, foundBy, leaving, whenWithdrawn, withdrawnBy, withdrawalOf, withdrawnOver}
+use Rattle.roster.specs.Claims.{LodgingKeeps, RefusedLodging, WithdrawingKeeps, RefusedWithdrawing, readAt, PlacesRead, LodgedReads}
+use Rattle.roster.specs.declared.Lodging.{Lodging}
+use Rattle.roster.specs.declared.Lodging.the-variants as lodging
+use Rattle.roster.specs.declared.Withdrawal.{Withdrawal}
+use Rattle.roster.specs.declared.Withdrawal.the-variants as withdrawal
+use Rattle.roster.proofs.Pairs.{length-pair, read-front}
+use Rattle.roster.proofs.Packing.{place-of}
+use Rattle.roster.proofs.Sorted.{View, here, away, view, lodged-rising, withdrawn-rising, withdrawn-short}
+use Rattle.roster.proofs.Decode.{roster-back, roster-sound}
+
+-- ── the records after an accepted call ──
+
+room-left : (x : Bool) (n : ℕ) → leb 64 n ≡ x → cond x lodging.Full lodging.Lodged ≡ lodging.Lodged → n < 64
+room-left true n e f = let z : _≡_ {A = ℕ} 0 1 = cc in absurd (omega arith)
+room-left false n e f = leb-false 64 n e
+
+-- an accepted pair has room
+pub room-after : (r : Record) (rs : List Record) → View (r .number) rs → length rs ≤ 64 → ruling r rs ≡ lodging.Lodged → length (lodged r rs) ≤ 64
+room-after r rs (here S) h v =
+    rw (S .lodges r refl) (omega (arith, length-append (S .xs) (r ∷ S .zs), length-append (S .xs) (S .s ∷ S .zs), ap length (S .cut)))
+room-after r rs (away M) h v =
+    let few = room-left (leb 64 (length rs)) (length rs) refl (rw (M .none-found) at v) in
+    rw (M .lodges r refl) (omega (arith, length-append (M .xs) (r ∷ M .ys), length-append (M .xs) (M .ys), ap length (M .cut)))
+
+pub after-lodging : (r : Record) (rs : List Record) → Rising 0 rs → length rs ≤ 64 → legal r ≡ true → ruling r rs ≡ lodging.Lodged
+    → rosterOf (bytesOf (lodged r rs)) ≡ some (lodged r rs)
+after-lodging r rs q h l v =
+    roster-back (lodged r rs) (lodged-rising r l (omega arith) q) (room-after r rs (view (r .number) q) h v)
+
+pub after-withdrawing : (n : ℕ) (rs : List Record) → Rising 0 rs → length rs ≤ 64 → rosterOf (bytesOf (withdrawn n rs)) ≡ some (withdrawn n rs)
+after-withdrawing n rs q h = roster-back (withdrawn n rs) (withdrawn-rising n q) (omega (arith, withdrawn-short n rs))
+
+pub lodging-keeps : LodgingKeeps
+unfolding lodgingOf lodgedOver
+lodging-keeps b line1 line2 rs r e g v =
+    let d = roster-sound b rs e in
+    let a : ruling r rs ≡ lodging.Lodged = rw (g, e) at v in
+    rw (g, e, a) (after-lodging r rs (d .rising) (d .room) (accepted-are-legal line1 line2 r g) a)
+
+found-some : (o : Option Record) (new b : List ℕ) → foundBy o ≡ withdrawal.Withdrawn → whenWithdrawn (foundBy o) new b ≡ new
+found-some none new b e = cc
+found-some (some r) new b e = refl
+
+pub withdrawing-keeps : WithdrawingKeeps
+unfolding withdrawalOf withdrawnOver
+withdrawing-keeps b n rs e v =
+    let d = roster-sound b rs e in
+    rw (e, found-some (lookup n rs) (bytesOf (withdrawn n rs)) b (rw e at v)) (after-withdrawing n rs (d .rising) (d .room))
+
+-- ── after a refused call ──
+
+unless-lodged : (v : Lodging) (new b : List ℕ) → (v ≡ lodging.Lodged → ⊥) → whenLodged v new b ≡ b
+unless-lodged lodging.Lodged new b h = absurd (h refl)
+unless-lodged (lodging.Unread why) new b h = refl
+unless-lodged lodging.NoRoster new b h = refl
+unless-lodged lodging.Older new b h = refl
+unless-lodged lodging.Full new b h = refl
+
+lodging-stays : (g : Reading) (o : Option (List Record)) (b : List ℕ) → (answered g o ≡ lodging.Lodged → ⊥) → lodgedBy bytesOf g o b ≡ b
+lodging-stays (reading.Refused why) o b h = refl
+lodging-stays (reading.Record r) none b h = refl
+lodging-stays (reading.Record r) (some rs) b h = unless-lodged (ruling r rs) (bytesOf (lodged r rs)) b h
+
+pub refused-lodging : RefusedLodging
+unfolding lodgingOf lodgedOver
+refused-lodging b line1 line2 h = lodging-stays (readOf line1 line2) (rosterOf b) b h
+
+unless-withdrawn : (v : Withdrawal) (new b : List ℕ) → (v ≡ withdrawal.Withdrawn → ⊥) → whenWithdrawn v new b ≡ b
+unless-withdrawn withdrawal.Withdrawn new b h = absurd (h refl)
+unless-withdrawn withdrawal.NoRoster new b h = refl
+unless-withdrawn withdrawal.Absent new b h = refl
+
+withdrawing-stays : (n : ℕ) (o : Option (List Record)) (b : List ℕ) → (leaving n o ≡ withdrawal.Withdrawn → ⊥) → withdrawnBy bytesOf n o b ≡ b
+withdrawing-stays n none b h = refl
+withdrawing-stays n (some rs) b h = unless-withdrawn (foundBy (lookup n rs)) (bytesOf (withdrawn n rs)) b h
+
+pub refused-withdrawing : RefusedWithdrawing
+unfolding withdrawalOf withdrawnOver
+refused-withdrawing b n h = withdrawing-stays n (rosterOf b) b h
+
+-- ── demand 2 ──
+
+legal-at : {low : ℕ} {rs : List Record} (i : ℕ) (r : Record) → Rising low rs → getElem? rs i ≡ some r → legal r ≡ true
+legal-at i r end e = absurd (Option·none-ne-some r e)
+legal-at zero r (next {r = s} g l q) e = ap legal (sym (Option·some-injective s r e)) ∙ l
+legal-at (suc i) r (next g l q) e = legal-at i r q e
+
+pub places-read : PlacesRead
+unfolding packed
+places-read b rs i r e g =
+    let d = roster-sound b rs e in
+    let p = place-of pairBytes 138 length-pair rs _ i r g in
+    ap (readAt i) (d .bytes)
+    ∙ ap (λ (l : List ℕ). readOf (take 69 l) (take 69 (drop 69 l))) (p .1)
+    ∙ read-front r (p .0) (legal-at i r (d .rising) g)
+
+element-at : (xs : List Record) (r : Record) (zs : List Record) → getElem? (xs ++ r ∷ zs) (length xs) ≡ some r
+element-at [] r zs = refl
+element-at (x ∷ xs) r zs = element-at xs r zs
+
+-- the index of a record that was lodged
+lodged-at : (r : Record) (rs : List Record) → View (r .number) rs → (i : ℕ) × (i < length (lodged r rs)) × (getElem? (lodged r rs) i ≡ some r)
+lodged-at r rs (here S) =
+    rw (S .lodges r refl) (length (S .xs), omega (arith, length-append (S .xs) (r ∷ S .zs)), element-at (S .xs) r (S .zs))
+lodged-at r rs (away M) =
+    rw (M .lodges r refl) (length (M .xs), omega (arith, length-append (M .xs) (r ∷ M .ys)), element-at (M .xs) r (M .ys))
+
+lodging-is : (b line1 line2 : List ℕ) (g : Reading) (o : Option (List Record)) → readOf line1 line2 ≡ g → rosterOf b ≡ o → lodgingOf b line1 line2 ≡ answered g o
+unfolding lodgingOf
+lodging-is b line1 line2 g o e f = rw (e, f)
+
+lodged-read : (b line1 line2 : List ℕ) (g : Reading) (o : Option (List Record)) → readOf line1 line2 ≡ g → rosterOf b ≡ o → answered g o ≡ lodging.Lodged
+    → (i : ℕ) × (i < 64) × (readAt i (lodgedOver b line1 line2) ≡ g)
+lodged-read b line1 line2 (reading.Refused why) o e f v = let z : _≡_ {A = ℕ} 0 1 = cc in absurd (omega arith)
+lodged-read b line1 line2 (reading.Record r) none e f v = let z : _≡_ {A = ℕ} 0 1 = cc in absurd (omega arith)
+lodged-read b line1 line2 (reading.Record r) (some rs) e f v =
+    let d = roster-sound b rs f in
+    let w = view (r .number) (d .rising) in
+    let p = lodged-at r rs w in
+    let a : lodgingOf b line1 line2 ≡ lodging.Lodged = lodging-is b line1 line2 (reading.Record r) (some rs) e f ∙ v in (
+      p .0,
+      omega (arith, p .1, room-after r rs w (d .room) v),
+      places-read (lodgedOver b line1 line2) (lodged r rs) (p .0) r (lodging-keeps b line1 line2 rs r f e a) (p .2),
+    )
+
+pub lodged-reads : LodgedReads
+unfolding lodgingOf
+lodged-reads b line1 line2 v = lodged-read b line1 line2 (readOf line1 line2) (rosterOf b) refl refl v

@@ -1,0 +1,61 @@
+-- Zeros, and equal bytes, byte by byte.
+use Prim.Native.Nat.{ℕ, zero, suc, _+_, _<_, _≤_}
+use mathlib.Core.Path.{_≡_, refl, ap, sym, _∙_}
+use mathlib.Core.Bool.{Bool, true, false}
+use mathlib.Core.List.{List, [], _∷_}
+use native.Mathlib.Numerals.{add-one}
+use native.Mathlib.Omega.{arith}
+use borrow.Author.Tests.{eq-eqb, ne-eqb, eqb-true}
+use lib.Dec.{eqb}
+use lib.ListN.{length, drop, getD, replicate, drop-of-length-le}
+use lib.Seq.{drop-cons}
+use Rattle.tle_writer.proofs.Facts.{both}
+use Rattle.roster.specs.Roster.{allZero, same}
+
+-- ── zeros ──
+
+pub zero-more : (s : List ℕ) (i : ℕ) → i < length s → getD s i 0 ≡ 0 → allZero (drop i s) ≡ allZero (drop (i + 1) s)
+unfolding allZero
+zero-more s i h e = rw (add-one, drop-cons s i 0 h, e)
+
+pub zero-stop : (s : List ℕ) (i : ℕ) → i < length s → (getD s i 0 ≡ 0 → ⊥) → false ≡ allZero (drop i s)
+unfolding allZero
+zero-stop s i h n = rw (drop-cons s i 0 h, ne-eqb (getD s i 0) 0 n)
+
+pub zero-end : (s : List ℕ) (i : ℕ) → length s ≤ i → true ≡ allZero (drop i s)
+unfolding allZero
+zero-end s i h = rw (drop-of-length-le s {i = i} h)
+
+pub zero-replicate : (s : List ℕ) → allZero s ≡ true → s ≡ replicate (length s) 0
+unfolding allZero
+zero-replicate [] h = refl
+zero-replicate (x ∷ s) h =
+    let p = both (eqb x 0) (allZero s) h in
+    ap (λ (n : ℕ). n ∷ s) (eqb-true x 0 (p .0)) ∙ ap (λ (t : List ℕ). 0 ∷ t) (zero-replicate s (p .1))
+
+pub replicate-zero : (n : ℕ) → allZero (replicate n 0) ≡ true
+unfolding allZero
+replicate-zero zero = refl
+replicate-zero (suc n) = replicate-zero n
+
+-- ── equal bytes ──
+
+pub same-equal : (a b : List ℕ) → same a b ≡ true → a ≡ b
+unfolding same
+same-equal [] [] h = refl
+same-equal [] (y ∷ b) h = cc
+same-equal (x ∷ a) [] h = cc
+same-equal (x ∷ a) (y ∷ b) h =
+    let p = both (eqb x y) (same a b) h in
+    ap (λ (n : ℕ). n ∷ a) (eqb-true x y (p .0)) ∙ ap (λ (t : List ℕ). y ∷ t) (same-equal a b (p .1))
+
+pub same-refl : (a : List ℕ) → same a a ≡ true
+unfolding same
+same-refl [] = refl
+same-refl (x ∷ a) = rw (eq-eqb x x refl) (same-refl a)
+
+-- a test that holds of equal bytes alone
+pub same-as : (x y : Bool) (a b : List ℕ) → same a b ≡ y → (x ≡ true → a ≡ b) → (a ≡ b → x ≡ true) → x ≡ y
+same-as x true a b h f g = g (same-equal a b h)
+same-as true false a b h f g = sym (ap (same a) (sym (f refl)) ∙ same-refl a) ∙ h
+same-as false false a b h f g = refl

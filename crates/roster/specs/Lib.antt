@@ -1,0 +1,7 @@
+pub mod Records
+pub mod Packed
+pub mod Roster
+pub mod Calls
+pub mod Claims
+pub mod Scan
+pub mod Shift

@@ -1,0 +1,69 @@
+// One place of a roster: 138 bytes.
+
+ghost use mathlib.Core.Path.{_≡_};
+ghost use mathlib.Core.Bool.{true};
+ghost use Prim.Native.Nat.{_+_, _≤_};
+ghost use lib.ListN.{length};
+ghost use Rattle.tle.specs.Legal.{legal};
+ghost use Rattle.tle_writer.specs.Over.{over};
+ghost use Rattle.roster.specs.Roster.{allZero, same, pairBytes, placeOf};
+use tle::Line;
+use tle::Reading;
+use tle::Record;
+use tle::read;
+use tle_writer::fill_line;
+
+// What a place that is not all zeros holds.
+pub enum Place {
+    Pair(Record),
+    Damaged,
+}
+
+pub(crate) fn all_zero(s: &[u8]) -> bool
+    ensures { λ r. ⌜ r ≡ allZero (now (s .entry)) ⌝ }
+{
+    let mut i = 0;
+    while i < s.len() {
+        if s[i] != 0 {
+            return false;
+        }
+        i += 1;
+    }
+    true
+}
+
+// The pair written over the 138 bytes after the first at.
+pub(crate) fn put_pair(b: &mut [u8], at: usize, r: Record)
+    requires { ⌜ (legal r ≡ true) × (at + 138 ≤ length (now b)) ⌝ }
+    ensures { λ _. ⌜ now (b .exit) ≡ over at 138 (pairBytes r) (now (b .entry)) ⌝ }
+{
+    let half = at + 69;
+    let end = at + 138;
+    fill_line(r, Line::One, &mut b[at..half]);
+    fill_line(r, Line::Two, &mut b[half..end]);
+}
+
+// Whether the bytes are the pair as we write it.
+fn is_written(p: &[u8], r: Record) -> bool
+    requires { ⌜ legal r ≡ true ⌝ }
+    ensures { λ t. ⌜ t ≡ same (now (p .entry)) (pairBytes r) ⌝ }
+{
+    let mut out = [0u8; 138];
+    put_pair(&mut out, 0, r);
+    check::same(p, &out)
+}
+
+// What the 138 bytes of a place hold.
+pub(crate) fn place_at(p: &[u8]) -> Place
+    requires { ⌜ length (now p) ≡ 138 ⌝ }
+    ensures { λ r. ⌜ r ≡ placeOf (now (p .entry)) ⌝ }
+{
+    let reading = read(&p[0..69], &p[69..138]);
+    let Reading::Record(record) = reading else {
+        return Place::Damaged;
+    };
+    if is_written(p, record) {
+        return Place::Pair(record);
+    }
+    Place::Damaged
+}
