@@ -26,6 +26,9 @@ mod gaps;
 mod places;
 mod scan;
 
+pub use gaps::clear;
+pub use places::all_zero;
+
 // What lodging answers.
 pub enum Lodging {
     Lodged,

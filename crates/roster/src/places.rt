@@ -19,7 +19,7 @@ pub enum Place {
     Damaged,
 }
 
-pub(crate) fn all_zero(s: &[u8]) -> bool
+pub fn all_zero(s: &[u8]) -> bool
     ensures { λ r. ⌜ r ≡ allZero (now (s .entry)) ⌝ }
 {
     let mut i = 0;

@@ -1,0 +1,288 @@
+#!/usr/bin/env python3
+"""Calls on a roster, and all its bytes after each.
+
+A roster of its own, written from document 02 (wish 2) and from nothing else,
+over the reader of tle_pairs.py and the spelling of written_lines.py.
+
+  roster_calls.py --write INPUT EXPECTED
+      writes steps of two lines each, as crate test_roster reads them, and for
+      each call its answer and the buffer afterwards: by places of 138 bytes, a
+      zero as `~`, what is not printable as `\\` and two hexadecimal digits, and
+      then how many zeros are left.
+"""
+
+import argparse
+import random
+import sys
+from datetime import date
+from pathlib import Path
+
+sys.dont_write_bytecode = True
+from tle_pairs import EXAMPLE, Draw, judge, line1, line2, put, summed
+from written_lines import first, second
+
+PLACE = 138
+PLACES = 64
+SIZE = PLACE * PLACES
+EMPTY = bytes(SIZE)
+
+# ------------------------------------------------------------------ the roster
+
+
+def spelt(one, two):
+    """The pair as we write it."""
+    return (first(one.decode()) + second(two.decode())).encode()
+
+
+def catalogue(pair):
+    return int(pair[2:7])
+
+
+def instant(pair):
+    """The epoch in microseconds from 1957 January 1, 0h."""
+    year = int(pair[18:20])
+    year += 1900 if year >= 57 else 2000
+    days = (date(year, 1, 1) - date(1957, 1, 1)).days
+    return days * 86_400_000_000 + (int(pair[20:23] + pair[24:32]) - 100_000_000) * 864
+
+
+def held(buffer):
+    """The pairs of a roster; None where the buffer is none."""
+    if len(buffer) != SIZE:
+        return None
+    used = -(-len(buffer.rstrip(b"\0")) // PLACE)
+    pairs = [buffer[i * PLACE:(i + 1) * PLACE] for i in range(used)]
+    for pair in pairs:
+        one, two = pair[:69], pair[69:]
+        if judge(one, two) != "ok" or spelt(one, two) != pair:
+            return None
+    numbers = [catalogue(pair) for pair in pairs]
+    return pairs if all(a < b for a, b in zip(numbers, numbers[1:])) else None
+
+
+def packed(pairs):
+    return b"".join(sorted(pairs, key=catalogue)).ljust(SIZE, b"\0")
+
+
+def lodged(buffer, one, two):
+    answer = judge(one, two)
+    if answer != "ok":
+        return answer, buffer
+    pairs = held(buffer)
+    if pairs is None:
+        return "refused 22", buffer
+    new = spelt(one, two)
+    others = [pair for pair in pairs if catalogue(pair) != catalogue(new)]
+    if any(instant(new) < instant(pair) for pair in pairs if pair not in others):
+        return "refused 20", buffer
+    if len(others) == PLACES:
+        return "refused 19", buffer
+    return "ok", packed(others + [new])
+
+
+def withdrawn(buffer, number):
+    pairs = held(buffer)
+    if pairs is None:
+        return "refused 22", buffer
+    others = [pair for pair in pairs if catalogue(pair) != number]
+    return ("ok", packed(others)) if len(others) < len(pairs) else ("refused 21", buffer)
+
+
+# ------------------------------------------------------------------ the steps
+
+
+def shown(place):
+    def byte(b):
+        if b == 0:
+            return "~"
+        return chr(b) if 32 <= b <= 125 and b != 92 else f"\\{b:02x}"
+    return "".join(byte(b) for b in place)
+
+
+class Steps:
+    """What is given, what is expected, and the buffer so far."""
+
+    def __init__(self):
+        self.given = b""
+        self.expected = ""
+        self.buffer = EMPTY
+
+    def step(self, one, two):
+        assert b"\n" not in one + two
+        self.given += one + b"\n" + two + b"\n"
+
+    def tell(self, answer, buffer):
+        self.buffer = buffer
+        used = -(-len(buffer.rstrip(b"\0")) // PLACE)
+        places = [buffer[i * PLACE:(i + 1) * PLACE] for i in range(used)]
+        zeros = len(buffer) - sum(map(len, places))
+        self.expected += "".join(f"{line}\n" for line in [answer, *map(shown, places), f"zeros {zeros}"])
+
+    def length(self, size):
+        self.step(b"=%d" % size, b"")
+        self.buffer = bytes(size)
+
+    def put(self, at, some):
+        for i in range(0, len(some), 69):
+            part = some[i:i + 69]
+            self.step(b"@%d" % (at + i), part)
+            self.buffer = self.buffer[:at + i] + part + self.buffer[at + i + len(part):]
+
+    def load(self, buffer):
+        """A buffer that no call made."""
+        self.length(len(buffer))
+        self.put(0, buffer.rstrip(b"\0"))
+
+    def lodge(self, one, two):
+        assert one[:1] not in (b"=", b"@", b"-") 
+        self.step(one, two)
+        self.tell(*lodged(self.buffer, one, two))
+
+    def withdraw(self, number):
+        self.step(b"-%d" % number, b"")
+        self.tell(*withdrawn(self.buffer, number))
+
+
+def pair(number, year="00", day="179.78495062", **fields):
+    at = "%05d" % number
+    names = ("inclination", "node", "eccentricity", "perigee", "anomaly", "motion", "revolution")
+    second_line = {name: fields.pop(name) for name in names if name in fields}
+    return line1(number=at, year=year, day=day, **fields), line2(number=at, **second_line)
+
+
+# The example of document 01 spelt in other ways than ours, and of the same record.
+OTHER = (summed("1 00005U 58002B   00179.78495062 +.00000023 +00000+0 +28098-4 0 0475"),
+         summed("2 00005 034.2682 348.7242 1859667 331.7664 019.3264 10.8241915741366"))
+
+
+def one_number(steps):
+    """Lodged, replaced by equal and later epochs, refused for an older, withdrawn."""
+    steps.length(SIZE)
+    steps.withdraw(5)
+    steps.lodge(*EXAMPLE)
+    steps.lodge(*OTHER)
+    steps.lodge(*pair(5, set=" 476", node="  0.0000"))
+    steps.lodge(*pair(5, day="179.78495061"))
+    steps.lodge(*pair(5, day="179.78495063", bstar="-00000+0"))
+    steps.lodge(*EXAMPLE)
+    steps.lodge(*pair(5, year="99", day="366.99999999"))
+    steps.lodge(*pair(5, year="01", day="001.00000000"))
+    for number in (4, 6, 0, 99999, 100000, 5 + 2 ** 32, 2 ** 64 - 1):
+        steps.withdraw(number)
+    steps.withdraw(5)
+    steps.withdraw(5)
+    steps.lodge(*EXAMPLE)
+
+
+def instants(steps):
+    """Epochs are compared as instants: day 366 of a common year is January 1 of the next."""
+    steps.length(SIZE)
+    steps.lodge(*pair(7, year="57", day="366.00000000"))
+    steps.lodge(*pair(7, year="58", day="001.00000000"))
+    steps.lodge(*pair(7, year="57", day="366.00000000", type="1"))
+    steps.lodge(*pair(7, year="57", day="365.99999999"))
+    steps.lodge(*pair(7, year="99", day="100.00000000"))
+    steps.lodge(*pair(7, year="00", day="100.00000000"))
+    steps.lodge(*pair(7, year="56", day="366.99999999"))
+    steps.lodge(*pair(7, year="57", day="001.00000000"))
+
+
+def order(steps, draw):
+    """Numbers in any order, taken out at the front, in between and at the end."""
+    steps.length(SIZE)
+    for number in (500, 20, 99999, 0, 300, 21, 19):
+        at = "%05d" % number
+        steps.lodge(line1(**draw.fields1(at)), line2(**draw.fields2(at)))
+    for number in (0, 300, 22, 99999, 20):
+        steps.withdraw(number)
+    steps.lodge(*pair(300, year="56"))
+    for number in (19, 21, 300, 500, 500):
+        steps.withdraw(number)
+
+
+def refusals_of_reading(steps):
+    """1 to 6 come first, also where the buffer is no roster."""
+    unread = [
+        (EXAMPLE[0][:68], EXAMPLE[1]), (EXAMPLE[0], EXAMPLE[1] + b" "), (b"", b""),
+        (EXAMPLE[1], EXAMPLE[0]), (EXAMPLE[0], put(EXAMPLE[1], 12, ord(","))),
+        (EXAMPLE[0], put(EXAMPLE[1], 69, ord("0"))), (EXAMPLE[0], line2(number="00006")),
+        pair(5, day="000.99999999"), pair(5, inclination="180.0001"), pair(5, node="360.0000"),
+        pair(5, perigee="360.0000"), pair(5, anomaly="360.0000"), pair(5, motion=" 0.00000000"),
+    ]
+    for buffer in (packed([spelt(*EXAMPLE)]), b"?" + bytes(SIZE - 1), bytes(SIZE - 1)):
+        steps.load(buffer)
+        for one, two in unread:
+            steps.lodge(one, two)
+        steps.lodge(*EXAMPLE)
+
+
+def full(steps, draw):
+    """64 places: another number is 19, one that is there is replaced or older, and room is made."""
+    numbers = sorted(draw.rng.sample(range(1, 99999), PLACES))
+    pairs = [spelt(*pair(number, year="06", day="%03d.00000000" % (i + 1))) for i, number in enumerate(numbers)]
+    steps.load(packed(pairs))
+    steps.lodge(*pair(0))
+    steps.lodge(*pair(99999, year="56"))
+    steps.lodge(*pair(numbers[0], year="07"))
+    steps.lodge(*pair(numbers[63], year="05"))
+    steps.lodge(*pair(numbers[63], year="08"))
+    steps.withdraw(numbers[31])
+    steps.lodge(*pair(0))
+    steps.lodge(*pair(99999))
+    steps.withdraw(numbers[63])
+    steps.lodge(*pair(99999))
+    steps.withdraw(numbers[1])
+
+
+def damaged(steps):
+    """22 for every buffer that is no roster; what stands there stays."""
+    three = [spelt(*pair(number, year="06")) for number in (10, 20, 30)]
+    whole = packed(three)
+
+    def with_bytes(at, some):
+        return whole[:at] + some + whole[at + len(some):]
+
+    mended = summed(three[1][:8] + b"C" + three[1][9:68])
+    buffers = [
+        b"", b"\0", whole[:-1], whole + b"\0", whole[:3 * PLACE], bytes(SIZE - PLACE), bytes(SIZE + PLACE),
+        with_bytes(3 * PLACE, b" "), with_bytes(SIZE - 1, b" "), with_bytes(SIZE - 1, b"\1"),
+        with_bytes(3 * PLACE - 1, b"\0"), with_bytes(2 * PLACE + 68, b"\0"), with_bytes(0, b"\0"),
+        packed([]) [:PLACE] + packed(three[1:])[:SIZE - PLACE],
+        three[0] + bytes(PLACE) + three[1] + three[2] + bytes(SIZE - 4 * PLACE),
+        b"".join([three[0], three[2], three[1]]).ljust(SIZE, b"\0"),
+        b"".join([three[1], three[0], three[2]]).ljust(SIZE, b"\0"),
+        b"".join([three[0], three[0], three[1]]).ljust(SIZE, b"\0"),
+        b"".join([three[0], spelt(*pair(10, year="07"))]).ljust(SIZE, b"\0"),
+        b"".join(OTHER).ljust(SIZE, b"\0"), (EXAMPLE[0] + OTHER[1]).ljust(SIZE, b"\0"),
+        (OTHER[0] + EXAMPLE[1]).ljust(SIZE, b"\0"),
+        with_bytes(PLACE + 68, b"?"), with_bytes(PLACE, mended), with_bytes(PLACE + 69, three[0][69:]),
+        whole[69:] + bytes(69), three[0][:69].ljust(SIZE, b"\0"),
+    ]
+    for buffer in buffers:
+        assert held(buffer) is None, buffer
+        steps.load(buffer)
+        steps.lodge(*pair(20, year="07"))
+        steps.withdraw(20)
+    steps.load(whole)
+    steps.withdraw(20)
+
+
+def main():
+    parser = argparse.ArgumentParser()
+    parser.add_argument("--write", nargs=2, type=Path, metavar=("INPUT", "EXPECTED"), required=True)
+    given, expected = parser.parse_args().write
+    steps = Steps()
+    draw = Draw(random.Random(8832))
+    one_number(steps)
+    instants(steps)
+    order(steps, draw)
+    refusals_of_reading(steps)
+    full(steps, draw)
+    damaged(steps)
+    assert len(steps.given) < 65536, "more than the program reads"
+    given.write_bytes(steps.given)
+    expected.write_text(steps.expected)
+
+
+if __name__ == "__main__":
+    main()
