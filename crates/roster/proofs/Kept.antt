@@ -6,19 +6,20 @@ use mathlib.Core.List.{List, [], _∷_, _++_}
 use mathlib.Core.Option.{Option, none, some, Option·some-injective, Option·none-ne-some}
 use native.Mathlib.Omega.{arith}
 use borrow.Author.Tests.{leb-false}
-use lib.Dec.{leb}
+use lib.Dec.{leb, ltb}
 use lib.ListN.{length, take, drop, getElem?, length-append}
 use Rattle.tle.specs.Legal.{legal}
 use Rattle.tle.specs.Read.{readOf}
 use Rattle.tle.specs.declared.Record.{Record}
+use Rattle.tle.specs.declared.Refusal.{Refusal}
 use Rattle.tle.specs.declared.Reading.{Reading}
 use Rattle.tle.specs.declared.Reading.the-variants as reading
 use Rattle.tle.proofs.Accepted.{accepted-are-legal}
 use Rattle.roster.specs.Packed.{packed}
-use Rattle.roster.specs.Records.{Rising, end, next, lookup, lodged, withdrawn}
+use Rattle.roster.specs.Records.{Rising, end, next, lookup, instantOf, lodged, withdrawn}
 use Rattle.roster.specs.Roster.{pairBytes, bytesOf, rosterOf}
-use Rattle.roster.specs.Calls.{ruling, answered, whenLodged, lodgedBy, lodgingOf, lodgedOver, foundBy, leaving, whenWithdrawn, withdrawnBy, withdrawalOf, withdrawnOver}
-use Rattle.roster.specs.Claims.{LodgingKeeps, RefusedLodging, WithdrawingKeeps, RefusedWithdrawing, readAt, PlacesRead, LodgedReads}
+use Rattle.roster.specs.Calls.{ruledBy, ruling, answered, whenLodged, lodgedBy, lodgingOf, lodgedOver, foundBy, leaving, whenWithdrawn, withdrawnBy, withdrawalOf, withdrawnOver}
+use Rattle.roster.specs.Claims.{ReadingFirst, LodgingKeeps, RefusedLodging, WithdrawingKeeps, RefusedWithdrawing, readAt, PlacesRead, LodgedReads}
 use Rattle.roster.specs.declared.Lodging.{Lodging}
 use Rattle.roster.specs.declared.Lodging.the-variants as lodging
 use Rattle.roster.specs.declared.Withdrawal.{Withdrawal}
@@ -27,6 +28,37 @@ use Rattle.roster.proofs.Pairs.{length-pair, read-front}
 use Rattle.roster.proofs.Packing.{place-of}
 use Rattle.roster.proofs.Sorted.{View, here, away, view, lodged-rising, withdrawn-rising, withdrawn-short}
 use Rattle.roster.proofs.Decode.{roster-back, roster-sound}
+
+-- ── reading comes first ──
+
+-- what is ruled of a record is no refusal of reading
+ruled-by : (x : Bool) (a b : Lodging) (why : Refusal) → (a ≡ lodging.Unread why → ⊥) → (b ≡ lodging.Unread why → ⊥) → cond x a b ≡ lodging.Unread why → ⊥
+ruled-by true a b why f g e = f e
+ruled-by false a b why f g e = g e
+
+abbrev is-unread : Lodging → ℕ
+is-unread lodging.Lodged = 0
+is-unread (lodging.Unread why) = 1
+is-unread lodging.NoRoster = 0
+is-unread lodging.Older = 0
+is-unread lodging.Full = 0
+
+other : (a : Lodging) (why : Refusal) → is-unread a ≡ 0 → a ≡ lodging.Unread why → ⊥
+other a why h e = let z : _≡_ {A = ℕ} 0 1 = sym h ∙ ap is-unread e in absurd (omega arith)
+
+ruled : (r : Record) (rs : List Record) (o : Option Record) (why : Refusal) → ruledBy r rs o ≡ lodging.Unread why → ⊥
+ruled r rs none why e = ruled-by (leb 64 (length rs)) lodging.Full lodging.Lodged why (other lodging.Full why refl) (other lodging.Lodged why refl) e
+ruled r rs (some s) why e =
+    ruled-by (ltb (instantOf r) (instantOf s)) lodging.Older lodging.Lodged why (other lodging.Older why refl) (other lodging.Lodged why refl) e
+
+refused-by : (g : Reading) (o : Option (List Record)) (why : Refusal) → answered g o ≡ lodging.Unread why → g ≡ reading.Refused why
+refused-by (reading.Refused w) o why e = let q : w ≡ why = cc in ap reading.Refused q
+refused-by (reading.Record r) none why e = absurd (other lodging.NoRoster why refl e)
+refused-by (reading.Record r) (some rs) why e = absurd (ruled r rs (lookup (r .number) rs) why e)
+
+pub reading-first : ReadingFirst
+unfolding lodgingOf
+reading-first b line1 line2 why = (λ e. refused-by (readOf line1 line2) (rosterOf b) why e, λ g. ap (λ (t : Reading). answered t (rosterOf b)) g)
 
 -- ── the records after an accepted call ──
 

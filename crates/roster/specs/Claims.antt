@@ -7,6 +7,7 @@ use mathlib.Core.Option.{some}
 use lib.ListN.{length, take, drop, getElem?}
 use Rattle.tle.specs.Read.{readOf}
 use Rattle.tle.specs.declared.Record.{Record}
+use Rattle.tle.specs.declared.Refusal.{Refusal}
 use Rattle.tle.specs.declared.Reading.{Reading}
 use Rattle.tle.specs.declared.Reading.the-variants as reading
 use Rattle.roster.specs.Records.{Rising, lodged, withdrawn}
@@ -18,6 +19,10 @@ use Rattle.roster.specs.declared.Withdrawal.the-variants as withdrawal
 -- the bytes of at most 64 legal records by rising number hold that roster, and a buffer that holds one has exactly its bytes
 abbrev pub RostersExactly : Type 0
 RostersExactly = (b : List ℕ) (rs : List Record) → (rosterOf b ≡ some rs) ↔ ((b ≡ bytesOf rs) × Rising 0 rs × (length rs ≤ 64))
+
+-- "Refusals, after those of reading": where reading refuses the lines, and only there, its refusal comes back
+abbrev pub ReadingFirst : Type 0
+ReadingFirst = (b line1 line2 : List ℕ) (why : Refusal) → (lodgingOf b line1 line2 ≡ lodging.Unread why) ↔ (readOf line1 line2 ≡ reading.Refused why)
 
 -- both calls keep a roster a roster: of the records after an accepted call, and after a refused one of the same
 abbrev pub LodgingKeeps : Type 0

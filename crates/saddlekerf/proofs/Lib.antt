@@ -1,4 +1,5 @@
 -- The laws that the proofs of the functions share.
 mod Columns
+mod Rosters
 mod Printed
 pub mod Records

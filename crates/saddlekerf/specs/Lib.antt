@@ -2,3 +2,4 @@ pub mod Version
 pub mod Answer
 pub mod Pairs
 pub mod Records
+pub mod Roster

@@ -15,7 +15,9 @@ ghost use Rattle.saddlekerf.specs.Answer.{fieldNumber, refusalAnswer, re
 ghost use Rattle.saddlekerf.specs.Pairs as P;
 ghost use Rattle.saddlekerf.specs.Records as C;
 ghost use Rattle.saddlekerf.specs.Version.{version, boundary};
+ghost use Rattle.saddlekerf.specs.Roster.{lodgingAnswer, withdrawalAnswer, UnreadFits};
 ghost use Rattle.record_numbers.specs.Numbers.{givenOf};
+ghost use Rattle.roster.specs.Calls.{lodgingOf, lodgedOver, withdrawalOf, withdrawnOver};
 use instant::Epoch;
 use lent_requests::answer;
 use lent_requests::request_held;
@@ -27,6 +29,9 @@ use opening::opening::open_pair;
 use record_numbers::Given;
 use record_numbers::record_of;
 use record_numbers::store_record;
+use roster::Lodging;
+use roster::lodge;
+use roster::withdraw;
 use storing::store;
 use tle::Field;
 use tle::Line;
@@ -186,6 +191,38 @@ pub extern "C" fn saddlekerf_write(fields: &[i64], line: u32, out: &mut [u8]) ->
         Given::NoClass => answer(16, 0, 0, 0),
         Given::TooShort => answer(17, 0, 0, 0),
     }
+}
+
+// A pair lodged, or its refusal with what comes back with it.
+fn lodging_answer(a: Lodging) -> u64
+    requires { ⌜ UnreadFits a ⌝ }
+    ensures { λ r. ⌜ r ≡ lodgingAnswer a ⌝ }
+{
+    match a {
+        Lodging::Lodged => answer(0, 0, 0, 0),
+        Lodging::Unread(why) => refusal_answer(why),
+        Lodging::NoRoster => answer(22, 0, 0, 0),
+        Lodging::Older => answer(20, 0, 0, 0),
+        Lodging::Full => answer(19, 0, 0, 0),
+    }
+}
+
+// Lodges the pair of two lines in the roster.
+#[no_mangle]
+pub extern "C" fn saddlekerf_lodge(roster: &mut [u8], line1: &[u8], line2: &[u8]) -> u64
+    ensures { λ r. ⌜ r ≡ lodgingAnswer (lodgingOf (now (roster .entry)) (now (line1 .entry)) (now (line2 .entry))) ⌝ }
+    ensures { λ _. ⌜ now (roster .exit) ≡ lodgedOver (now (roster .entry)) (now (line1 .entry)) (now (line2 .entry)) ⌝ }
+{
+    lodging_answer(lodge(roster, line1, line2))
+}
+
+// Withdraws the pair of a catalogue number from the roster.
+#[no_mangle]
+pub extern "C" fn saddlekerf_withdraw(roster: &mut [u8], number: u64) -> u64
+    ensures { λ r. ⌜ r ≡ withdrawalAnswer (withdrawalOf (now (roster .entry)) number) ⌝ }
+    ensures { λ _. ⌜ now (roster .exit) ≡ withdrawnOver (now (roster .entry)) number ⌝ }
+{
+    withdraw(roster, number).number()
 }
 
 fn opening_answer(why: opening::opening::Refusal) -> u64
