@@ -38,7 +38,7 @@
  *   Nothing is allocated, nothing is kept after the return, and there is no global state: calls on
  *   different memory may run in any number of threads at once. A request writes the satellite, so
  *   one satellite takes one call at a time; copy the struct to ask it in two threads.
- *   A call that is refused with 1-9 or 16-18 writes nothing. Where memory "stays", it is proved to
+ *   A call that is refused with 1-9 or 16-22 writes nothing. Where memory "stays", it is proved to
  *   hold the same values; all NaNs are one value there, and that a NaN keeps its own bits too is
  *   tested and not proved.
  *
@@ -111,6 +111,11 @@ extern "C" {
 #define SADDLEKERF_LINE 69
 #define SADDLEKERF_FIELDS 22
 
+/* Bytes of a roster, of one of its places, and how many places it has. */
+#define SADDLEKERF_ROSTER 8832
+#define SADDLEKERF_PAIR 138
+#define SADDLEKERF_PLACES 64
+
 /* Refusal numbers. */
 enum saddlekerf_refusal_number {
     SADDLEKERF_ANSWERED = 0,
@@ -131,7 +136,11 @@ enum saddlekerf_refusal_number {
     SADDLEKERF_STATE_NOT_FINITE = 15,     /* a number of the state is not finite */
     SADDLEKERF_RECORD = 16,               /* a record to be written is outside layout or ranges */
     SADDLEKERF_ROOM = 17,                 /* lent memory too short */
-    SADDLEKERF_LIST = 18                  /* a list of more than 1,024 times */
+    SADDLEKERF_LIST = 18,                 /* a list of more than 1,024 times */
+    SADDLEKERF_FULL = 19,                 /* all 64 places of the roster hold other numbers */
+    SADDLEKERF_OLDER = 20,                /* the roster's pair of this number has a later epoch */
+    SADDLEKERF_ABSENT = 21,               /* the roster has no pair of this number */
+    SADDLEKERF_NO_ROSTER = 22             /* the buffer is no roster, or has another length */
 };
 
 /* The fields of refusal 6, in column order. */
@@ -257,6 +266,32 @@ uint64_t saddlekerf_record(const uint8_t *line1, size_t line1_length,
  */
 uint64_t saddlekerf_write(const int64_t *fields, size_t fields_length, uint32_t line,
                           uint8_t *out, size_t out_length);
+
+/* ---- a roster ---- */
+
+/*
+ * A roster is 8,832 bytes: up to 64 pairs of 138 bytes, each its line 1 and its line 2 as
+ * saddlekerf_write writes them with nothing between, by rising catalogue number, packed from the
+ * front, and every byte after the last pair 0. 8,832 zeros are the empty roster. A call judges the
+ * whole buffer, so that one damaged in any way is refused and never grows worse.
+ */
+
+/*
+ * Lodges a pair, written as saddlekerf_write does whatever way it is spelt here. It replaces the pair
+ * of its catalogue number, unless its epoch is the older instant; an equal epoch replaces. Else it
+ * takes its place, and the later pairs move up.
+ * Answer: 0; 1-6 as saddlekerf_read; 22 where the buffer has another length or is no roster; 20 where
+ * the roster's pair of that number has a later epoch; 19 where all 64 places hold other numbers.
+ */
+uint64_t saddlekerf_lodge(uint8_t *roster, size_t roster_length,
+                          const uint8_t *line1, size_t line1_length,
+                          const uint8_t *line2, size_t line2_length);
+
+/*
+ * Withdraws the pair of a catalogue number: the later pairs close the gap, and zeros follow.
+ * Answer: 0; 22 where the buffer has another length or is no roster; 21 where it has no such pair.
+ */
+uint64_t saddlekerf_withdraw(uint8_t *roster, size_t roster_length, uint64_t number);
 
 /* ---- a satellite ---- */
 

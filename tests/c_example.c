@@ -1,6 +1,6 @@
 /*
- * Uses the library from C: reads, prints and opens pairs, reads and writes records, asks for one time
- * and for lists, and holds every answer, bit for bit, to document 01's example and to the rows of the
+ * Uses the library from C: reads, prints and opens pairs, reads and writes records, lodges pairs in a
+ * roster and withdraws them, asks for one time and for lists, and holds every answer, bit for bit, to document 01's example and to the rows of the
  * published test set; what memory holds afterwards too, with NaNs in it whose own bits must stay.
  *
  *   c_example bench/vectors/published-rows.txt
@@ -254,6 +254,88 @@ static void letters(void)
     CHECK(saddlekerf_refusal(a) == SADDLEKERF_COLUMN);
     CHECK(saddlekerf_line(a) == 2 && saddlekerf_column(a) == 3);
     CHECK(read_lines(LINE1, line2_with(3, "A")) == SADDLEKERF_CATALOGUE);
+}
+
+/* The example spelt in another way than ours. */
+static const char OTHER1[] = "1 00005U 58002B   00179.78495062 +.00000023 +00000+0 +28098-4 0 04752";
+static const char OTHER2[] = "2 00005 034.2682 348.7242 1859667 331.7664 019.3264 10.82419157413667";
+
+static uint64_t lodge(uint8_t *roster, const char *line1, const char *line2)
+{
+    return saddlekerf_lodge(roster, SADDLEKERF_ROSTER, bytes(line1), strlen(line1), bytes(line2), strlen(line2));
+}
+
+/* Whether the roster is these pairs, and zeros after. */
+static int holds(const uint8_t *roster, const char *const *lines, size_t pairs)
+{
+    size_t i;
+    for (i = 0; i < 2 * pairs; i++)
+        if (memcmp(roster + LENGTH * i, lines[i], LENGTH) != 0)
+            return 0;
+    for (i = SADDLEKERF_PAIR * pairs; i < SADDLEKERF_ROSTER; i++)
+        if (roster[i] != 0)
+            return 0;
+    return 1;
+}
+
+/* Lodged in order whatever the order of the calls, in our spelling; an older epoch is refused. */
+static void keep_roster(void)
+{
+    static const char *const both[] = {LINE1, LINE2, RESONANT1, RESONANT2};
+    static uint8_t roster[SADDLEKERF_ROSTER + 1];
+    static const char OLDER1[] = "1 00005U 58002B   00179.78495061  .00000023  00000-0  28098-4 0  4752";
+    uint64_t a;
+
+    CHECK(SADDLEKERF_ROSTER == SADDLEKERF_PLACES * SADDLEKERF_PAIR && SADDLEKERF_PAIR == 2 * LENGTH);
+    CHECK(saddlekerf_withdraw(roster, SADDLEKERF_ROSTER, 5) == SADDLEKERF_ABSENT);
+    CHECK(holds(roster, both, 0));
+    CHECK(lodge(roster, RESONANT1, RESONANT2) == SADDLEKERF_ANSWERED);
+    CHECK(holds(roster, both + 2, 1));
+    CHECK(lodge(roster, OTHER1, OTHER2) == SADDLEKERF_ANSWERED);
+    CHECK(holds(roster, both, 2));
+    CHECK(lodge(roster, OLDER1, LINE2) == SADDLEKERF_OLDER);
+    a = lodge(roster, LINE1, line2_with(12, ","));
+    CHECK(saddlekerf_refusal(a) == SADDLEKERF_COLUMN && saddlekerf_line(a) == 2 && saddlekerf_column(a) == 12);
+    CHECK(saddlekerf_withdraw(roster, SADDLEKERF_ROSTER, 6) == SADDLEKERF_ABSENT);
+    CHECK(holds(roster, both, 2));
+    CHECK(saddlekerf_withdraw(roster, SADDLEKERF_ROSTER, 5) == SADDLEKERF_ANSWERED);
+    CHECK(holds(roster, both + 2, 1));
+    CHECK(lodge(roster, LINE1, LINE2) == SADDLEKERF_ANSWERED);
+    CHECK(saddlekerf_withdraw(roster, SADDLEKERF_ROSTER, 24208) == SADDLEKERF_ANSWERED);
+    CHECK(holds(roster, both, 1));
+    CHECK(saddlekerf_withdraw(roster, SADDLEKERF_ROSTER + 1, 5) == SADDLEKERF_NO_ROSTER);
+    CHECK(saddlekerf_withdraw(roster, SADDLEKERF_ROSTER - 1, 5) == SADDLEKERF_NO_ROSTER);
+    CHECK(holds(roster, both, 1));
+    roster[SADDLEKERF_ROSTER - 1] = ' ';
+    CHECK(lodge(roster, RESONANT1, RESONANT2) == SADDLEKERF_NO_ROSTER);
+    CHECK(saddlekerf_withdraw(roster, SADDLEKERF_ROSTER, 5) == SADDLEKERF_NO_ROSTER);
+    CHECK(roster[SADDLEKERF_ROSTER - 1] == ' ');
+    roster[SADDLEKERF_ROSTER - 1] = 0;
+    CHECK(holds(roster, both, 1));
+}
+
+/* 64 numbers, and no place for another. */
+static void fill_roster(void)
+{
+    static uint8_t roster[SADDLEKERF_ROSTER], before[SADDLEKERF_ROSTER];
+    int64_t fields[SADDLEKERF_FIELDS];
+    uint8_t line1[LENGTH], line2[LENGTH];
+    uint64_t number;
+
+    memcpy(fields, EXAMPLE, sizeof fields);
+    for (number = 0; number <= SADDLEKERF_PLACES; number++) {
+        fields[SADDLEKERF_RECORD_NUMBER] = (int64_t)(7 * number % 65);
+        CHECK(saddlekerf_write(fields, SADDLEKERF_FIELDS, 1, line1, LENGTH) == (uint64_t)LENGTH << 32);
+        CHECK(saddlekerf_write(fields, SADDLEKERF_FIELDS, 2, line2, LENGTH) == (uint64_t)LENGTH << 32);
+        memcpy(before, roster, sizeof before);
+        if (number < SADDLEKERF_PLACES) {
+            CHECK(saddlekerf_lodge(roster, sizeof roster, line1, LENGTH, line2, LENGTH) == SADDLEKERF_ANSWERED);
+        } else {
+            CHECK(saddlekerf_lodge(roster, sizeof roster, line1, LENGTH, line2, LENGTH) == SADDLEKERF_FULL);
+            CHECK(memcmp(roster, before, sizeof before) == 0);
+        }
+    }
+    CHECK(memcmp(roster + SADDLEKERF_ROSTER - SADDLEKERF_PAIR, "1 00064U", 8) == 0);
 }
 
 static uint32_t strides_at(saddlekerf_satellite *s, int64_t time)
@@ -578,6 +660,8 @@ int main(int argc, char **argv)
     read_record();
     write_record();
     letters();
+    keep_roster();
+    fill_roster();
     count_strides();
     keep_memory();
     lend_nothing();

@@ -21,6 +21,8 @@ uint64_t __real_saddlekerf_epoch(PAIR, uint64_t *instant);
 uint64_t __real_saddlekerf_record(PAIR, int64_t *fields, size_t fields_length);
 uint64_t __real_saddlekerf_write(const int64_t *fields, size_t fields_length, uint32_t line, uint8_t *out,
                                  size_t out_length);
+uint64_t __real_saddlekerf_lodge(uint8_t *roster, size_t roster_length, PAIR);
+uint64_t __real_saddlekerf_withdraw(uint8_t *roster, size_t roster_length, uint64_t number);
 uint64_t __real_saddlekerf_open(PAIR, SATELLITE);
 uint64_t __real_saddlekerf_request(SATELLITE, int64_t time, double *state, size_t state_length);
 uint64_t __real_saddlekerf_request_list(SATELLITE, const int64_t *times, size_t times_length, uint8_t *refusals,
@@ -118,6 +120,39 @@ uint64_t __wrap_saddlekerf_write(const int64_t *fields, size_t fields_length, ui
         out[SADDLEKERF_LINE] = 0;
     if ((a & 255) != 0 && out_length > 0 && wrong("write-refused"))
         out[0] = '1';
+    return a;
+}
+
+uint64_t __wrap_saddlekerf_lodge(uint8_t *roster, size_t roster_length, PAIR)
+{
+    const uint64_t a = __real_saddlekerf_lodge(roster, roster_length, LENT_PAIR);
+    if (a == 0 && wrong("lodge-spelling"))
+        memcpy(roster, line1, SADDLEKERF_LINE); /* the line as it was spelt, at the front */
+    if (a == 0 && roster[SADDLEKERF_ROSTER - SADDLEKERF_PAIR] == 0 && wrong("lodge-past"))
+        roster[SADDLEKERF_ROSTER - 1] = ' ';
+    if (saddlekerf_refusal(a) == SADDLEKERF_OLDER && wrong("lodge-older"))
+        return 0;
+    if (a != 0 && roster_length > 0 && wrong("lodge-refused"))
+        roster[roster_length - 1] ^= 1;
+    return a;
+}
+
+uint64_t __wrap_saddlekerf_withdraw(uint8_t *roster, size_t roster_length, uint64_t number)
+{
+    uint8_t last[SADDLEKERF_PAIR];
+    uint64_t a;
+    size_t used = roster_length;
+    while (used > 0 && roster[used - 1] == 0)
+        used--;
+    if (used >= SADDLEKERF_PAIR)
+        memcpy(last, roster + used - SADDLEKERF_PAIR, sizeof last);
+    a = __real_saddlekerf_withdraw(roster, roster_length, number);
+    if (a == 0 && wrong("withdraw-left"))
+        memcpy(roster + used - SADDLEKERF_PAIR, last, sizeof last); /* the last pair's bytes behind the end */
+    if (a != 0 && roster_length > 0 && wrong("withdraw-refused"))
+        roster[roster_length - 1] ^= 1;
+    if (saddlekerf_refusal(a) == SADDLEKERF_ABSENT && wrong("withdraw-absent"))
+        return 0;
     return a;
 }
 

@@ -78,6 +78,17 @@ mod c {
             out_length: usize,
         ) -> u64;
 
+        pub fn saddlekerf_lodge(
+            roster: *mut u8,
+            roster_length: usize,
+            line1: *const u8,
+            line1_length: usize,
+            line2: *const u8,
+            line2_length: usize,
+        ) -> u64;
+
+        pub fn saddlekerf_withdraw(roster: *mut u8, roster_length: usize, number: u64) -> u64;
+
         pub fn saddlekerf_open(
             line1: *const u8,
             line1_length: usize,
@@ -182,6 +193,25 @@ pub fn write(fields: &[i64], line: u32, out: &mut [u8]) -> u64 {
     unsafe { c::saddlekerf_write(fields.as_ptr(), fields.len(), line, out.as_mut_ptr(), out.len()) }
 }
 
+pub fn lodge(roster: &mut [u8], line1: &[u8], line2: &[u8]) -> u64 {
+    // SAFETY: all three are slices; `roster` is mutable, so that it overlaps neither line.
+    unsafe {
+        c::saddlekerf_lodge(
+            roster.as_mut_ptr(),
+            roster.len(),
+            line1.as_ptr(),
+            line1.len(),
+            line2.as_ptr(),
+            line2.len(),
+        )
+    }
+}
+
+pub fn withdraw(roster: &mut [u8], number: u64) -> u64 {
+    // SAFETY: `roster` is a mutable slice.
+    unsafe { c::saddlekerf_withdraw(roster.as_mut_ptr(), roster.len(), number) }
+}
+
 pub fn open(line1: &[u8], line2: &[u8], numbers: &mut [f64], marks: &mut [u32]) -> u64 {
     // SAFETY: all four are slices, the last two mutable, so that they overlap nothing.
     unsafe {
@@ -246,7 +276,7 @@ pub fn request_list(
 #[cfg(test)]
 mod tests {
     use super::*;
-    use crate::{Record, Satellite, PRINT_ROOM};
+    use crate::{Record, Roster, Satellite, PRINT_ROOM};
 
     /// The numbers written here are the header's.
     #[test]
@@ -265,6 +295,9 @@ mod tests {
         assert_eq!(defined("TIME_LIMIT"), Microseconds::LIMIT.0);
         assert_eq!(defined("LINE"), Record::LINE as i64);
         assert_eq!(defined("FIELDS"), FIELDS as i64);
+        assert_eq!(defined("ROSTER"), Roster::SIZE as i64);
+        assert_eq!(defined("PAIR"), Roster::PAIR as i64);
+        assert_eq!(defined("PLACES"), Roster::PLACES as i64);
         assert_eq!(defined("VERSION"), VERSION as i64);
     }
 

@@ -35,6 +35,23 @@
 //! # }
 //! ```
 //!
+//! A roster keeps up to 64 pairs, one a catalogue number, in 8,832 bytes:
+//!
+//! ```
+//! use saddlekerf::{Refusal, Roster};
+//!
+//! # fn main() -> Result<(), Refusal> {
+//! # let line1 = b"1 00005U 58002B   00179.78495062  .00000023  00000-0  28098-4 0  4753";
+//! # let line2 = b"2 00005  34.2682 348.7242 1859667 331.7664  19.3264 10.82419157413667";
+//! let mut roster = Roster::new();
+//! roster.lodge(line1, line2)?;
+//! assert_eq!(roster.get(5).unwrap().line1, line1);
+//! roster.withdraw(5)?;
+//! assert_eq!(roster.withdraw(5), Err(Refusal::Absent));
+//! # Ok(())
+//! # }
+//! ```
+//!
 //! Lines are any bytes at all, without a line end. They get an answer or exactly one [`Refusal`],
 //! with the line, the first column that breaks the layout, or the field, where it has one.
 //!
@@ -63,11 +80,13 @@
 mod ffi;
 mod record;
 mod refusal;
+mod roster;
 mod satellite;
 mod time;
 
 pub use record::{Exponential, Record};
 pub use refusal::{Field, Line, Refusal};
+pub use roster::{lodge, withdraw, Pair, Roster};
 pub use satellite::{Answer, Rooms, Row, Rows, Satellite, State};
 pub use time::{Instant, Microseconds, Strides};
 

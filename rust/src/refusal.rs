@@ -68,10 +68,18 @@ pub enum Refusal {
     Room,
     /// 18: a list of more than 1,024 times.
     List,
+    /// 19: all 64 places of a roster hold other numbers.
+    Full,
+    /// 20: a roster's pair of this number has a later epoch.
+    Older,
+    /// 21: a roster has no pair of this number.
+    Absent,
+    /// 22: a buffer is no roster, or has another length.
+    NoRoster,
 }
 
 impl Refusal {
-    /// The refusal's number, 1 to 18.
+    /// The refusal's number, 1 to 22.
     pub const fn number(self) -> u8 {
         match self {
             Refusal::Length { .. } => 1,
@@ -92,6 +100,10 @@ impl Refusal {
             Refusal::Record => 16,
             Refusal::Room => 17,
             Refusal::List => 18,
+            Refusal::Full => 19,
+            Refusal::Older => 20,
+            Refusal::Absent => 21,
+            Refusal::NoRoster => 22,
         }
     }
 }
@@ -128,6 +140,10 @@ impl fmt::Display for Refusal {
             Refusal::Record => f.write_str("a record outside layout or ranges"),
             Refusal::Room => f.write_str("lent room too short"),
             Refusal::List => f.write_str("a list of more than 1,024 times"),
+            Refusal::Full => f.write_str("all 64 places hold other numbers"),
+            Refusal::Older => f.write_str("an epoch older than that of the roster's pair"),
+            Refusal::Absent => f.write_str("no pair of this number"),
+            Refusal::NoRoster => f.write_str("the buffer is no roster"),
         }
     }
 }
@@ -212,6 +228,10 @@ impl Answer {
             16 => Refusal::Record,
             17 => Refusal::Room,
             18 => Refusal::List,
+            19 => Refusal::Full,
+            20 => Refusal::Older,
+            21 => Refusal::Absent,
+            22 => Refusal::NoRoster,
             _ => return None,
         })
     }
@@ -295,6 +315,10 @@ mod tests {
             (16, 16, Refusal::Record, "a record outside layout or ranges"),
             (17, 17, Refusal::Room, "lent room too short"),
             (18, 18, Refusal::List, "a list of more than 1,024 times"),
+            (19, 19, Refusal::Full, "all 64 places hold other numbers"),
+            (20, 20, Refusal::Older, "an epoch older than that of the roster's pair"),
+            (21, 21, Refusal::Absent, "no pair of this number"),
+            (22, 22, Refusal::NoRoster, "the buffer is no roster"),
         ];
         for (answer, number, refusal, text) in table {
             assert_eq!(Answer(answer).plain(), Err(refusal));
@@ -319,7 +343,7 @@ mod tests {
     fn another_answer_is_no_refusal() {
         let told = |ask: fn(Answer) -> bool, answer| std::panic::catch_unwind(|| ask(Answer(answer))).is_ok();
         let plain = |answer: Answer| answer.plain().is_ok();
-        for answer in [19, 1, 0x0301, 0x0001_0101, 0x0100_0103, 0x0006, 0x0007_0006, 0x0107, 0x0001_0009] {
+        for answer in [23, 1, 0x0301, 0x0001_0101, 0x0100_0103, 0x0006, 0x0007_0006, 0x0107, 0x0001_0009] {
             assert!(!told(plain, answer), "{answer:#x}");
         }
         for answer in [1 << 32, 4 << 8, 1 << 16, 9 | 1 << 32] {

@@ -1,0 +1,169 @@
+//! Rosters: lodged, replaced, refused, withdrawn, and every byte afterwards.
+
+use saddlekerf::{lodge, withdraw, Field, Line, Record, Refusal, Roster};
+
+const LINE1: &[u8] = b"1 00005U 58002B   00179.78495062  .00000023  00000-0  28098-4 0  4753";
+const LINE2: &[u8] = b"2 00005  34.2682 348.7242 1859667 331.7664  19.3264 10.82419157413667";
+
+/// The same record spelt in another way than ours.
+const OTHER1: &[u8] = b"1 00005U 58002B   00179.78495062 +.00000023 +00000+0 +28098-4 0 04752";
+const OTHER2: &[u8] = b"2 00005 034.2682 348.7242 1859667 331.7664 019.3264 10.82419157413667";
+
+const EMPTY: [u8; Roster::SIZE] = [0; Roster::SIZE];
+
+fn record(number: u32, day: u64) -> Record {
+    Record { number, day, ..Record::read(LINE1, LINE2).unwrap() }
+}
+
+fn pair(number: u32, day: u64) -> [[u8; 69]; 2] {
+    record(number, day).write().unwrap()
+}
+
+/// The bytes of a roster, by the header's words.
+fn packed(pairs: &[[[u8; 69]; 2]]) -> Vec<u8> {
+    let mut bytes = pairs.concat().concat();
+    bytes.resize(Roster::SIZE, 0);
+    bytes
+}
+
+fn lodged(roster: &mut Roster, [line1, line2]: [[u8; 69]; 2]) -> Result<(), Refusal> {
+    roster.lodge(&line1, &line2)
+}
+
+const DAY: u64 = 100_0000_0000;
+
+#[test]
+fn our_spelling_by_rising_number() {
+    let mut roster = Roster::new();
+    assert!(roster.is_empty());
+    for number in [30, 10, 99_999, 0, 20] {
+        assert_eq!(lodged(&mut roster, pair(number, DAY)), Ok(()));
+    }
+    let numbers = [0, 10, 20, 30, 99_999];
+    assert_eq!(roster.bytes(), packed(&numbers.map(|number| pair(number, DAY))));
+    assert_eq!(roster.len(), 5);
+    assert!(roster.pairs().map(|pair| pair.record()).eq(numbers.map(|number| record(number, DAY))));
+    assert!(roster.pairs().rev().map(|pair| pair.record().number).eq([99_999, 30, 20, 10, 0]));
+    assert_eq!(roster.get(20).unwrap().record(), record(20, DAY));
+    assert_eq!(roster.get(21), None);
+    assert_eq!(roster.lodge(OTHER1, OTHER2), Ok(()));
+    let found = roster.get(5).unwrap();
+    assert_eq!((found.line1, found.line2), (LINE1, LINE2));
+}
+
+#[test]
+fn the_later_epoch_stays() {
+    let mut roster = Roster::new();
+    assert_eq!(lodged(&mut roster, pair(7, DAY)), Ok(()));
+    assert_eq!(lodged(&mut roster, pair(7, DAY - 1)), Err(Refusal::Older));
+    assert_eq!(roster.bytes(), packed(&[pair(7, DAY)]));
+    let equal = Record { set: 476, ..record(7, DAY) }.write().unwrap();
+    assert_eq!(lodged(&mut roster, equal), Ok(()));
+    assert_eq!(roster.bytes(), packed(&[equal]));
+    assert_eq!(lodged(&mut roster, pair(7, DAY + 1)), Ok(()));
+    assert_eq!(roster.bytes(), packed(&[pair(7, DAY + 1)]));
+}
+
+#[test]
+fn sixty_four_places() {
+    let mut bytes = EMPTY;
+    let mut roster = Roster::lent(&mut bytes).unwrap();
+    for number in 0..64 {
+        assert_eq!(lodged(&mut roster, pair(2 * (37 * number % 64), DAY)), Ok(()));
+    }
+    let full: Vec<_> = (0..64).map(|number| pair(2 * number, DAY)).collect();
+    assert_eq!(roster.bytes(), packed(&full));
+    for number in [1, 63, 127, 99_999] {
+        assert_eq!(lodged(&mut roster, pair(number, DAY)), Err(Refusal::Full));
+    }
+    assert_eq!(lodged(&mut roster, pair(126, DAY - 1)), Err(Refusal::Older));
+    assert_eq!(roster.bytes(), packed(&full));
+    assert_eq!(lodged(&mut roster, pair(126, DAY + 1)), Ok(()));
+    assert_eq!(roster.withdraw(0), Ok(()));
+    assert_eq!(lodged(&mut roster, pair(99_999, DAY)), Ok(()));
+    let mut expected = full[1..].to_vec();
+    expected[62] = pair(126, DAY + 1);
+    expected.push(pair(99_999, DAY));
+    assert_eq!(roster.bytes(), packed(&expected));
+    assert_eq!(bytes[..], packed(&expected));
+}
+
+#[test]
+fn the_gap_is_closed_with_zeros() {
+    let pairs = [1, 2, 3, 4].map(|number| pair(number, DAY));
+    for gone in 0..4 {
+        let mut bytes = packed(&pairs);
+        assert_eq!(withdraw(&mut bytes, gone as u64 + 1), Ok(()));
+        let mut left = pairs.to_vec();
+        left.remove(gone);
+        assert_eq!(bytes, packed(&left));
+        assert_eq!(withdraw(&mut bytes, gone as u64 + 1), Err(Refusal::Absent));
+        assert_eq!(bytes, packed(&left));
+    }
+    let mut bytes = packed(&pairs);
+    for number in [0, 5, 1 << 32 | 1, u64::MAX] {
+        assert_eq!(withdraw(&mut bytes, number), Err(Refusal::Absent));
+    }
+    assert_eq!(bytes, packed(&pairs));
+}
+
+#[test]
+fn reading_comes_first_and_with_its_values() {
+    let mut damaged = vec![b'?'; 100];
+    let mut whole = packed(&[pair(5, DAY)]);
+    for buffer in [&mut damaged, &mut whole] {
+        let before = buffer.clone();
+        assert_eq!(lodge(buffer, LINE1, b""), Err(Refusal::Length { line: Line::Two }));
+        let comma = [&LINE2[..11], b",", &LINE2[12..]].concat();
+        let column = Refusal::Column { line: Line::Two, column: 12 };
+        assert_eq!(lodge(buffer, LINE1, &comma), Err(column));
+        let steep = b"2 00005 180.0001 348.7242 1859667 331.7664  19.3264 10.82419157413662";
+        let range = Refusal::Range { field: Field::Inclination };
+        assert_eq!(lodge(buffer, LINE1, steep), Err(range));
+        assert_eq!(*buffer, before);
+    }
+    assert_eq!(lodge(&mut damaged, LINE1, LINE2), Err(Refusal::NoRoster));
+}
+
+/// A buffer that is no roster is refused by both calls, and stays.
+#[test]
+fn damaged_buffers() {
+    let pairs = [10, 20, 30].map(|number| pair(number, DAY));
+    let whole = packed(&pairs);
+    let with = |at: usize, byte: u8| {
+        let mut bytes = whole.clone();
+        bytes[at] = byte;
+        bytes
+    };
+    let buffers = [
+        vec![],
+        whole[..Roster::SIZE - 1].to_vec(),
+        [&whole[..], &[0]].concat(),
+        with(3 * Roster::PAIR, b' '),
+        with(Roster::SIZE - 1, 1),
+        with(3 * Roster::PAIR - 1, b'x'),
+        with(0, 0),
+        packed(&[pairs[0], pairs[2], pairs[1]]),
+        packed(&[pairs[0], pairs[0]]),
+        packed(&[[OTHER1.try_into().unwrap(), OTHER2.try_into().unwrap()]]),
+        [vec![0; Roster::PAIR], whole[..Roster::SIZE - Roster::PAIR].to_vec()].concat(),
+    ];
+    for mut bytes in buffers {
+        let before = bytes.clone();
+        assert_eq!(lodge(&mut bytes, LINE1, LINE2), Err(Refusal::NoRoster));
+        assert_eq!(withdraw(&mut bytes, 20), Err(Refusal::NoRoster));
+        assert_eq!(Roster::lent(&mut bytes).unwrap_err(), Refusal::NoRoster);
+        assert_eq!(bytes, before);
+    }
+    assert!(Roster::lent(&mut whole.clone()).is_ok());
+}
+
+#[test]
+fn a_copy_is_its_own() {
+    let mut bytes = packed(&[pair(5, DAY)]);
+    let mut roster = Roster::lent(&mut bytes).unwrap();
+    let copy = roster.copied();
+    assert_eq!(roster.withdraw(5), Ok(()));
+    assert_eq!((roster.len(), copy.len()), (0, 1));
+    assert_eq!(Roster::default().bytes(), EMPTY);
+}
