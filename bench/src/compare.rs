@@ -2,11 +2,12 @@
 //! random sequences of requests. A case is found again by its seed and number.
 
 use crate::elementary::Document;
-use crate::generate::{self, Aim, Ask, AIMS};
+use crate::generate::{self, Aim, Ask, Call, AIMS, DAMAGES};
 use crate::instant::DAY;
 use crate::library::{Library, Opened};
 use crate::random::Random;
 use crate::request::{Row, Satellite, Saved};
+use crate::roster;
 use crate::sgp4::{self, Elements};
 use crate::tle::{self, Record, Refusal};
 use std::collections::BTreeMap;
@@ -60,6 +61,7 @@ const WHOLE: u64 = 1;
 const DAMAGED: u64 = 2;
 const HANDED: u64 = 3;
 const RECORD: u64 = 4;
+const ROSTER: u64 = 5;
 
 /// A state that no library writes, to see what it leaves alone: NaNs with bits of their own among it.
 const UNTOUCHED: [f64; 6] = [
@@ -419,6 +421,93 @@ pub fn record_case(
     let record = generate::any_record(&mut random);
     write_both(&mut random, &record, libraries, tally).map_err(|what| Difference {
         case: format!("seed {seed}, record {index}"),
+        line1: String::new(),
+        line2: String::new(),
+        what,
+    })
+}
+
+/// A call on the same buffer by both: what they answer, and every byte of the buffer afterwards.
+fn call_both(
+    call: &Call,
+    buffer: &[u8],
+    libraries: (&dyn Library, &dyn Library),
+    tally: &mut Tally,
+) -> Result<Vec<u8>, String> {
+    let (one, other) = libraries;
+    let (mut first, mut second) = (buffer.to_vec(), buffer.to_vec());
+    let (what, refusal, told) = match call {
+        Call::Lodge(line1, line2) => {
+            let a = one.lodge(&mut first, line1, line2);
+            let b = other.lodge(&mut second, line1, line2);
+            let lines = (line1.escape_ascii().to_string(), line2.escape_ascii().to_string());
+            let refusal = a.err().map_or(0, |refusal| refusal.number());
+            (format!("lodging {lines:?}"), refusal, same_or("answer", a == b, &a, &b))
+        }
+        Call::Withdraw(number) => {
+            let (a, b) = (one.withdraw(&mut first, *number), other.withdraw(&mut second, *number));
+            (format!("withdrawing {number}"), a.err().unwrap_or(0), same_or("answer", a == b, &a, &b))
+        }
+    };
+    let kind = what.split(' ').next().expect("a word");
+    tally.add(format!("{kind}: refusal {refusal:>2}"), 1);
+    told.map_err(|difference| format!("{what}: {difference}"))?;
+    let text = |buffer: &[u8]| buffer.escape_ascii().to_string();
+    same_or(&format!("{what}: buffer"), first == second, &text(&first), &text(&second))?;
+    if refusal == 0 {
+        lodged(call, buffer, tally);
+    }
+    let stays = refusal == 0 || first == buffer;
+    same_or(&format!("{what}: buffer after a refusal"), stays, &text(buffer), &text(&first))?;
+    Ok(first)
+}
+
+/// How an accepted lodging came about, by the port.
+fn lodged(call: &Call, before: &[u8], tally: &mut Tally) {
+    let Call::Lodge(line1, line2) = call else { return };
+    let Ok(record) = tle::read(line1, line2) else { return };
+    tally.add(
+        match roster::epoch_of(before, record.number) {
+            None => "lodged: a new number",
+            Some(epoch) if epoch == record.epoch() => "lodged: an equal epoch",
+            Some(_) => "lodged: a later epoch",
+        },
+        1,
+    );
+}
+
+/// Calls on one roster, one after the other, and on damaged forms of it.
+fn call_all(
+    random: &mut Random,
+    libraries: (&dyn Library, &dyn Library),
+    tally: &mut Tally,
+) -> Result<(), String> {
+    let (records, mut buffer) = generate::roster(random);
+    tally.add(format!("roster: {:>2} pairs", records.len()), 1);
+    for _ in 0..12 {
+        let call = generate::call(random, &records);
+        buffer = call_both(&call, &buffer, libraries, tally)?;
+        let damage = *random.pick(&DAMAGES);
+        if let Some(damaged) = generate::damaged_roster(random, &records, damage) {
+            let call = generate::call(random, &records);
+            let stayed = call_both(&call, &damaged, libraries, tally)
+                .map_err(|what| format!("{what}\nafter {damage}"))?;
+            tally.add(format!("damage: {damage}"), (stayed == damaged) as u64);
+        }
+    }
+    Ok(())
+}
+
+/// Case `index` of the rosters.
+pub fn roster_case(
+    seed: u64,
+    index: u64,
+    libraries: (&dyn Library, &dyn Library),
+    tally: &mut Tally,
+) -> Result<(), Difference> {
+    let mut random = case_random(seed, ROSTER, index);
+    call_all(&mut random, libraries, tally).map_err(|what| Difference {
+        case: format!("seed {seed}, roster {index}"),
         line1: String::new(),
         line2: String::new(),
         what,

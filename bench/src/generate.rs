@@ -4,6 +4,7 @@
 use crate::instant::{DAY, SPAN_LIMIT};
 use crate::random::Random;
 use crate::request::{Saved, LIST_LIMIT, STRIDE};
+use crate::roster::{spelt, PAIR, PLACES, SIZE};
 use crate::sgp4::{RADIUSEARTHKM, XKE};
 use crate::tle::{self, Exponential, Record, LENGTH};
 
@@ -404,6 +405,131 @@ pub fn damaged_pair(random: &mut Random) -> (Vec<u8>, Vec<u8>) {
     }
     let [one, two] = lines;
     (one, two)
+}
+
+// ------------------------------------------------------------------ rosters
+
+/// A call on a roster.
+#[derive(Clone, Debug)]
+pub enum Call {
+    Lodge(Vec<u8>, Vec<u8>),
+    Withdraw(u64),
+}
+
+fn packed(records: &[Record]) -> Vec<u8> {
+    let mut bytes: Vec<u8> = records.iter().flat_map(spelt).collect();
+    bytes.resize(SIZE, 0);
+    bytes
+}
+
+/// The records of a roster, often none or all of its places, with their bytes.
+pub fn roster(random: &mut Random) -> (Vec<Record>, Vec<u8>) {
+    let count = *random.pick(&[0, 1, 2, 5, 20, 62, PLACES - 1, PLACES, PLACES, PLACES]);
+    let mut records: Vec<Record> = (0..4 * count).map(|_| anything(random)).collect();
+    records.sort_by_key(|record| record.number);
+    records.dedup_by_key(|record| record.number);
+    while records.len() > count {
+        records.remove(random.below(records.len() as u64) as usize);
+    }
+    let bytes = packed(&records);
+    (records, bytes)
+}
+
+/// A pair to be lodged: of a number that is there, with an epoch that is equal, a little earlier or
+/// later, or any; of another number; or lines that are damaged.
+fn lodging(random: &mut Random, records: &[Record]) -> Call {
+    if random.one_in(10) {
+        let (line1, line2) = damaged_pair(random);
+        return Call::Lodge(line1, line2);
+    }
+    let mut record = anything(random);
+    if !records.is_empty() && !random.one_in(3) {
+        let held = random.pick(records);
+        record.number = held.number;
+        if !random.one_in(4) {
+            let day = held.day as i64 + random.between(-1, 1);
+            (record.year, record.day) = (held.year, day.clamp(1_0000_0000, 366_9999_9999) as u64);
+        }
+    }
+    let written = |which| tle::written(&record, which).expect("a lawful record");
+    let mut lines = (written(1), written(2));
+    if random.one_in(2) {
+        vary(random, &mut lines);
+    }
+    Call::Lodge(lines.0.to_vec(), lines.1.to_vec())
+}
+
+/// A call: of the numbers of the records, or of others.
+pub fn call(random: &mut Random, records: &[Record]) -> Call {
+    match random.below(3) {
+        0 if records.is_empty() || random.one_in(4) => {
+            Call::Withdraw(*random.pick(&[0, 5, 99_999, 100_000, 1 << 32, u64::MAX]))
+        }
+        0 => Call::Withdraw(random.pick(records).number as u64 + (random.one_in(6) as u64) * (1 << 32)),
+        _ => lodging(random, records),
+    }
+}
+
+/// What may have happened to a buffer, by name. What comes out is now and then still a roster.
+pub const DAMAGES: [&str; 9] = [
+    "another length",
+    "a blank for a zero",
+    "a byte after the end",
+    "a pair out of order",
+    "a number twice",
+    "another spelling",
+    "a byte of a pair",
+    "a place of zeros",
+    "a pair moved by a byte",
+];
+
+/// The buffer of these records, damaged; None where it has too few of them for that.
+pub fn damaged_roster(random: &mut Random, records: &[Record], damage: &str) -> Option<Vec<u8>> {
+    let (mut bytes, count) = (packed(records), records.len());
+    let used = count * PAIR;
+    let place = |random: &mut Random, places: usize| random.below(places as u64) as usize * PAIR;
+    match damage {
+        "another length" => {
+            let length = *random.pick(&[0, 1, PAIR, SIZE - PAIR, SIZE - 1, SIZE + 1, SIZE + PAIR]);
+            bytes.resize(length, 0);
+        }
+        "a blank for a zero" if count < PLACES => {
+            *bytes[used..].iter_mut().nth(random.below((SIZE - used) as u64) as usize)? = b' ';
+        }
+        "a byte after the end" if count < PLACES => {
+            let at = *random.pick(&[used, used + PAIR - 1, SIZE - 1]);
+            bytes[at] = 1 + random.below(255) as u8;
+        }
+        "a pair out of order" if count > 1 => {
+            let at = place(random, count - 1);
+            bytes[at..at + 2 * PAIR].rotate_left(PAIR);
+        }
+        "a number twice" if count > 1 => {
+            let at = place(random, count - 1);
+            bytes.copy_within(at..at + PAIR, at + PAIR);
+        }
+        "another spelling" if count > 0 => {
+            let at = place(random, count);
+            let line = |from: usize| bytes[from..from + LENGTH].try_into().expect("a line");
+            let mut lines = (line(at), line(at + LENGTH));
+            vary(random, &mut lines);
+            bytes[at..at + PAIR].copy_from_slice(&[lines.0, lines.1].concat());
+        }
+        "a byte of a pair" if count > 0 => {
+            let at = random.below(used as u64) as usize;
+            bytes[at] = if random.one_in(2) { random.next_u64() as u8 } else { *random.pick(LAYOUT_BYTES) };
+        }
+        "a place of zeros" if count > 1 => {
+            let at = place(random, count - 1);
+            bytes[at..at + PAIR].fill(0);
+        }
+        "a pair moved by a byte" if count > 0 => {
+            let at = place(random, count);
+            bytes[at..].rotate_right(1);
+        }
+        _ => return None,
+    }
+    Some(bytes)
 }
 
 // ----------------------------------------------------------------- requests

@@ -1,4 +1,4 @@
-//! An independent port of documents 01 and 002, written from the papers alone.
+//! An independent port of documents 01, 02 and 002, written from the papers alone.
 //!
 //! The proved library is compared with it bit for bit, and timed against it.
 //! To be of use for that it shares nothing with the proved code: neither text
@@ -8,6 +8,7 @@
 //! - [`elementary`]: document 01's functions, and the system's.
 //! - [`instant`]: the calendar, minutes, Julian dates, the Greenwich angle.
 //! - [`tle`]: reading, writing and printing two-line sets.
+//! - [`roster`]: pairs lodged and withdrawn in a lent buffer.
 //! - [`sgp4`]: 002's model.
 //! - [`request`]: opening, single requests and lists, the saved position.
 //! - [`published`]: the pairs of 002's test set.
@@ -23,5 +24,6 @@ pub mod proved;
 pub mod published;
 pub mod random;
 pub mod request;
+pub mod roster;
 pub mod sgp4;
 pub mod tle;

@@ -4,6 +4,7 @@
 use crate::elementary::{Document, Elementary};
 use crate::instant::{self, SPAN_LIMIT};
 use crate::request::{list_by, Row, Satellite, Saved, STRIDE};
+use crate::roster;
 use crate::tle::{self, Record, Refusal};
 use std::hint::black_box;
 use std::marker::PhantomData;
@@ -36,10 +37,16 @@ pub trait Library {
     fn record(&self, line1: &[u8], line2: &[u8]) -> Result<Record, Refusal>;
     /// Writes line 1 or 2 of a record at the front of the room lent; or 16, 17.
     fn write(&self, record: &Record, which: u8, room: &mut [u8]) -> Result<(), u8>;
+    /// Lodges a pair in the roster lent; or a refusal, and the roster stays.
+    fn lodge(&self, roster: &mut [u8], line1: &[u8], line2: &[u8]) -> Result<(), roster::Refusal>;
+    /// Withdraws a number from the roster lent; or 22, 21, and the roster stays.
+    fn withdraw(&self, roster: &mut [u8], number: u64) -> Result<(), u8>;
     /// Reads and opens a pair.
     fn open(&self, line1: &[u8], line2: &[u8]) -> Result<Box<dyn Opened>, Unopened>;
     /// For timing: reads a pair.
     fn reader(&self, line1: &[u8], line2: &[u8]) -> Box<dyn Timed>;
+    /// For timing: lodges a pair in a roster.
+    fn lodger(&self, roster: &[u8], line1: &[u8], line2: &[u8]) -> Box<dyn Timed>;
     /// For timing: reads and opens a pair into memory made ready before.
     fn opener(&self, line1: &[u8], line2: &[u8]) -> Box<dyn Timed>;
     /// For timing: asks a newly opened satellite for the times, its rooms made ready before.
@@ -118,6 +125,14 @@ impl<E: Elementary + Copy + 'static> Library for Port<E> {
         tle::write(record, which, room)
     }
 
+    fn lodge(&self, roster: &mut [u8], line1: &[u8], line2: &[u8]) -> Result<(), roster::Refusal> {
+        roster::lodge(roster, line1, line2)
+    }
+
+    fn withdraw(&self, roster: &mut [u8], number: u64) -> Result<(), u8> {
+        roster::withdraw(roster, number)
+    }
+
     fn epoch(&self, line1: &[u8], line2: &[u8]) -> Result<u64, Refusal> {
         let record = tle::read(line1, line2)?;
         let micros = instant::from_epoch(record.year as i64, record.day as i64);
@@ -130,6 +145,15 @@ impl<E: Elementary + Copy + 'static> Library for Port<E> {
 
     fn reader(&self, line1: &[u8], line2: &[u8]) -> Box<dyn Timed> {
         Box::new(Reader { line1: line1.to_vec(), line2: line2.to_vec(), read: tle::read })
+    }
+
+    fn lodger(&self, roster: &[u8], line1: &[u8], line2: &[u8]) -> Box<dyn Timed> {
+        Box::new(Lodger {
+            roster: roster.to_vec(),
+            line1: line1.to_vec(),
+            line2: line2.to_vec(),
+            lodge: roster::lodge,
+        })
     }
 
     fn opener(&self, line1: &[u8], line2: &[u8]) -> Box<dyn Timed> {
@@ -164,6 +188,26 @@ impl<R> Timed for Reader<R> {
 
     fn run(&mut self) {
         let _ = black_box((self.read)(black_box(&self.line1), black_box(&self.line2)));
+    }
+}
+
+/// A roster, two lines to be lodged in it, and what lodges them.
+pub struct Lodger<R> {
+    pub roster: Vec<u8>,
+    pub line1: Vec<u8>,
+    pub line2: Vec<u8>,
+    pub lodge: fn(&mut [u8], &[u8], &[u8]) -> R,
+}
+
+impl<R> Timed for Lodger<R> {
+    fn renew(&mut self) {}
+
+    fn run(&mut self) {
+        let _ = black_box((self.lodge)(
+            black_box(&mut self.roster),
+            black_box(&self.line1),
+            black_box(&self.line2),
+        ));
     }
 }
 
@@ -262,6 +306,14 @@ impl<E: Elementary + Copy + 'static> Library for Restarting<E> {
         self.0.write(record, which, room)
     }
 
+    fn lodge(&self, roster: &mut [u8], line1: &[u8], line2: &[u8]) -> Result<(), roster::Refusal> {
+        self.0.lodge(roster, line1, line2)
+    }
+
+    fn withdraw(&self, roster: &mut [u8], number: u64) -> Result<(), u8> {
+        self.0.withdraw(roster, number)
+    }
+
     fn epoch(&self, line1: &[u8], line2: &[u8]) -> Result<u64, Refusal> {
         self.0.epoch(line1, line2)
     }
@@ -272,6 +324,10 @@ impl<E: Elementary + Copy + 'static> Library for Restarting<E> {
 
     fn reader(&self, line1: &[u8], line2: &[u8]) -> Box<dyn Timed> {
         self.0.reader(line1, line2)
+    }
+
+    fn lodger(&self, roster: &[u8], line1: &[u8], line2: &[u8]) -> Box<dyn Timed> {
+        self.0.lodger(roster, line1, line2)
     }
 
     fn opener(&self, line1: &[u8], line2: &[u8]) -> Box<dyn Timed> {

@@ -1,7 +1,8 @@
 //! The proved library, called over its C boundary by the safe wrapper in rust/.
 
-use crate::library::{Library, Opened, Reader, Timed, Told, Unopened};
+use crate::library::{Library, Lodger, Opened, Reader, Timed, Told, Unopened};
 use crate::request::{Row, Saved};
+use crate::roster;
 use crate::tle::{self, Exponential};
 use saddlekerf::{Field, Line, Microseconds, Record, Refusal, Rooms, Satellite, State};
 use std::hint::black_box;
@@ -43,6 +44,13 @@ fn unread(refusal: Refusal) -> tle::Refusal {
     match unopened(refusal) {
         Unopened::Unread(refusal) => refusal,
         Unopened::Refused(number) => panic!("reading gives no refusal {number}"),
+    }
+}
+
+fn unlodged(refusal: Refusal) -> roster::Refusal {
+    match unopened(refusal) {
+        Unopened::Unread(refusal) => roster::Refusal::Unread(refusal),
+        Unopened::Refused(number) => roster::Refusal::Refused(number),
     }
 }
 
@@ -140,6 +148,14 @@ impl Library for Proved {
         }
     }
 
+    fn lodge(&self, roster: &mut [u8], line1: &[u8], line2: &[u8]) -> Result<(), roster::Refusal> {
+        saddlekerf::lodge(roster, line1, line2).map_err(unlodged)
+    }
+
+    fn withdraw(&self, roster: &mut [u8], number: u64) -> Result<(), u8> {
+        saddlekerf::withdraw(roster, number).map_err(Refusal::number)
+    }
+
     fn open(&self, line1: &[u8], line2: &[u8]) -> Result<Box<dyn Opened>, Unopened> {
         match Satellite::open(line1, line2) {
             Ok(satellite) => Ok(Box::new(satellite)),
@@ -149,6 +165,15 @@ impl Library for Proved {
 
     fn reader(&self, line1: &[u8], line2: &[u8]) -> Box<dyn Timed> {
         Box::new(Reader { line1: line1.to_vec(), line2: line2.to_vec(), read: saddlekerf::read })
+    }
+
+    fn lodger(&self, roster: &[u8], line1: &[u8], line2: &[u8]) -> Box<dyn Timed> {
+        Box::new(Lodger {
+            roster: roster.to_vec(),
+            line1: line1.to_vec(),
+            line2: line2.to_vec(),
+            lodge: saddlekerf::lodge,
+        })
     }
 
     fn opener(&self, line1: &[u8], line2: &[u8]) -> Box<dyn Timed> {

@@ -1,10 +1,11 @@
 //! The short run of the comparison; `cargo run --release --bin compare` is the long one.
 
-use port::compare::{damaged_case, handed_case, record_case, whole_case, Tally};
+use port::compare::{damaged_case, handed_case, record_case, roster_case, whole_case, Tally};
 use port::elementary::{Document, DocumentProcessor, Libm};
 use port::library::{Library, Opened, Port, Restarting, Timed, Told, Unopened};
 use port::proved::Proved;
 use port::request::{Row, Saved};
+use port::roster;
 use port::tle::{self, Field, Record, Refusal, LENGTH};
 use std::io::Write;
 
@@ -85,6 +86,31 @@ fn records_written() {
     println!("{tally}");
     for name in ["write: written", "write: refusal 16", "write: refusal 17"] {
         assert!(tally.of(name) >= 1000, "{name}: {}", tally.of(name));
+    }
+}
+
+/// Rosters of every size, and damaged ones: thousands of calls.
+#[test]
+fn rosters() {
+    let (port, mut tally) = (Port::<Document>::new(), Tally::default());
+    for index in 0..400 {
+        roster_case(SEED, index, (&port, &Proved), &mut tally).unwrap_or_else(|found| panic!("{found}"));
+    }
+    println!("{tally}");
+    for number in [0, 1, 3, 4, 5, 6, 19, 20, 22] {
+        let name = format!("lodging: refusal {number:>2}");
+        assert!(tally.of(&name) >= 5, "{name}: {}", tally.of(&name));
+    }
+    for number in [0, 21, 22] {
+        let name = format!("withdrawing: refusal {number:>2}");
+        assert!(tally.of(&name) >= 50, "{name}: {}", tally.of(&name));
+    }
+    for name in ["lodged: a new number", "lodged: an equal epoch", "lodged: a later epoch"] {
+        assert!(tally.of(name) >= 50, "{name}: {}", tally.of(name));
+    }
+    for damage in port::generate::DAMAGES {
+        let name = format!("damage: {damage}");
+        assert!(tally.of(&name) >= 50, "{name}: {}", tally.of(&name));
     }
 }
 
@@ -215,6 +241,18 @@ enum Slip {
     ShortRoom,
     /// A record outside its ranges written as one inside.
     Unlawful,
+    /// An older epoch taken.
+    Older,
+    /// A byte of a roster after a pair was lodged.
+    Lodged,
+    /// A byte of a buffer after a refused call.
+    RosterRefused,
+    /// The bytes of the last pair left behind the end.
+    LeftBehind,
+    /// A number that is not there withdrawn.
+    Absent,
+    /// A buffer with a blank for a zero taken for a roster.
+    BlankForZero,
 }
 
 /// The proved library with a slip. Rows slip only once, after `at` others that could have.
@@ -278,6 +316,44 @@ impl Library for Slipping {
             _ => {}
         }
         answer
+    }
+
+    fn lodge(&self, buffer: &mut [u8], line1: &[u8], line2: &[u8]) -> Result<(), roster::Refusal> {
+        let answer = Proved.lodge(buffer, line1, line2);
+        match (self.slip, answer) {
+            (Slip::Older, Err(roster::Refusal::Refused(20))) => return Ok(()),
+            (Slip::Lodged, Ok(())) => buffer[7] ^= 1,
+            (Slip::RosterRefused, Err(_)) if !buffer.is_empty() => buffer[0] ^= 1,
+            (Slip::BlankForZero, Err(roster::Refusal::Refused(22))) if buffer.contains(&b' ') => {
+                let mut mended = buffer.to_vec();
+                let end = mended.iter().rposition(|&byte| byte > b' ').map_or(0, |last| last + 1);
+                mended[end..].fill(0);
+                if Proved.lodge(&mut mended, line1, line2).is_ok() {
+                    buffer.copy_from_slice(&mended);
+                    return Ok(());
+                }
+            }
+            _ => {}
+        }
+        answer
+    }
+
+    fn withdraw(&self, buffer: &mut [u8], number: u64) -> Result<(), u8> {
+        let before = buffer.to_vec();
+        let answer = Proved.withdraw(buffer, number);
+        match (self.slip, answer) {
+            (Slip::LeftBehind, Ok(())) => {
+                let used = buffer.iter().rposition(|&byte| byte != 0).map_or(0, |last| last + 1);
+                buffer[used..].copy_from_slice(&before[used..]);
+            }
+            (Slip::Absent, Err(21)) => return Ok(()),
+            _ => {}
+        }
+        answer
+    }
+
+    fn lodger(&self, _: &[u8], _: &[u8], _: &[u8]) -> Box<dyn Timed> {
+        unreachable!()
     }
 
     fn open(&self, line1: &[u8], line2: &[u8]) -> Result<Box<dyn Opened>, Unopened> {
@@ -406,6 +482,7 @@ fn found(slip: Slip, at: u64) -> String {
         let whole = whole_case(SEED, index, libraries, &mut tally);
         let other = whole.and_then(|()| damaged_case(SEED, index, libraries, &mut tally));
         let other = other.and_then(|()| handed_case(SEED, index, libraries, &mut tally));
+        let other = other.and_then(|()| roster_case(SEED, index, libraries, &mut tally));
         if let Err(difference) = other.and_then(|()| record_case(SEED, index, libraries, &mut tally)) {
             return difference.what;
         }
@@ -455,6 +532,12 @@ fn every_other_slip_is_seen() {
         (Slip::PastTheLine, ["writing"; 2]),
         (Slip::ShortRoom, ["writing"; 2]),
         (Slip::Unlawful, ["writing"; 2]),
+        (Slip::Older, ["lodging"; 2]),
+        (Slip::Lodged, ["lodging"; 2]),
+        (Slip::RosterRefused, ["lodging"; 2]),
+        (Slip::LeftBehind, ["withdrawing"; 2]),
+        (Slip::Absent, ["withdrawing"; 2]),
+        (Slip::BlankForZero, ["lodging"; 2]),
     ] {
         let what = found(slip, 0);
         assert!(starts.iter().any(|start| what.starts_with(start)), "{slip:?}: {what}");

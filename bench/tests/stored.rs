@@ -74,6 +74,11 @@ fn written_lines() {
 }
 
 #[test]
+fn test_roster() {
+    written("tests/roster_calls.py", "crates/test_roster");
+}
+
+#[test]
 fn test_listing() {
     written("tests/print_cases.py", "crates/test_listing");
 }

@@ -13,6 +13,8 @@ use port::library::{Library, Port, Restarting, Timed};
 use port::proved::Proved;
 use port::published;
 use port::request::LIST_LIMIT;
+use port::roster::{spelt, PLACES};
+use port::tle;
 use std::time::Instant;
 
 const DAY: i64 = port::instant::DAY;
@@ -29,6 +31,17 @@ fn pair(catalogue: &str) -> published::Pair {
 /// LIST_LIMIT times, evenly outward over so many days.
 fn grid(days: i64) -> Vec<i64> {
     (0..LIST_LIMIT as i64).map(|i| i * (days * DAY / LIST_LIMIT as i64)).collect()
+}
+
+/// A roster of 64 pairs, of the example's record under other numbers, and the lines of the one in the
+/// middle: lodged again, they replace it.
+fn full_roster() -> (Vec<u8>, published::Pair) {
+    let (line1, line2) = pair("06251");
+    let example = tle::read(&line1, &line2).expect("a published pair");
+    let record = |number| tle::Record { number, ..example };
+    let roster = (0..PLACES as u32).flat_map(|place| spelt(&record(1000 * place))).collect();
+    let line = |which| tle::written(&record(32_000), which).expect("a lawful record").to_vec();
+    (roster, (line(1), line(2)))
 }
 
 /// The libraries timed; ratios are the first one's time over another's. The
@@ -100,7 +113,7 @@ fn main() {
     };
     let libraries = libraries();
     println!(
-        "Nanoseconds per row, opening or reading, the best of {rounds} rounds. A ratio is the proved\n\
+        "Nanoseconds per row, opening, reading or lodging, the best of {rounds} rounds. A ratio is the proved\n\
          library's time over the other's: below 1 the library is the faster one.\n"
     );
     heading(&libraries.each_ref().map(|library| library.name()));
@@ -121,4 +134,7 @@ fn main() {
     let (line1, line2) = pair("06251");
     let mut timed = libraries.each_ref().map(|library| library.reader(&line1, &line2));
     show("reading a pair", &race(&mut timed, rounds, RUNS, 1));
+    let (roster, (line1, line2)) = full_roster();
+    let mut timed = libraries.each_ref().map(|library| library.lodger(&roster, &line1, &line2));
+    show("lodging into a full roster", &race(&mut timed, rounds, RUNS / 20, 1));
 }
