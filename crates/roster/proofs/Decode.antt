@@ -1,5 +1,5 @@
 -- Which bytes are a roster: exactly those of some records by rising number, at most 64.
-use Prim.Native.Nat.{ℕ, zero, suc, _+_, _-_, _*_, _<_, _≤_}
+use Prim.Native.Nat.{ℕ, zero, suc, _+_, _-_, _*_, _≤_}
 use mathlib.Core.Path.{_≡_, refl, ap, sym, _∙_}
 use mathlib.Core.Bool.{Bool, true, false, cond}
 use mathlib.Core.List.{List, [], _∷_, _++_, append-assoc, flatMap}
@@ -9,7 +9,6 @@ use borrow.Author.Tests.{eq-eqb, eqb-true, leb-true}
 use lib.Dec.{eqb, leb}
 use lib.ListN.{length, take, drop, replicate, length-drop, take-append-drop}
 use lib.Seq.{take-at, drop-at}
-use Rattle.tle.specs.Legal.{legal}
 use Rattle.tle.specs.declared.Record.{Record}
 use Rattle.roster.specs.Packed.{packed}
 use Rattle.roster.specs.Records.{Rising, end, next}

@@ -1,8 +1,8 @@
 -- What a pass over a buffer says of its records.
-use Prim.Native.Nat.{ℕ, suc, _+_, _-_, _*_, _<_, _≤_}
+use Prim.Native.Nat.{ℕ, suc, _+_, _≤_}
 use mathlib.Core.Path.{_≡_, refl, ap, sym, _∙_}
 use mathlib.Core.Bool.{Bool, true, false, cond}
-use mathlib.Core.List.{List, [], _∷_, _++_}
+use mathlib.Core.List.{List, [], _∷_}
 use mathlib.Core.Option.{Option, none, some}
 use native.Mathlib.Omega.{arith}
 use borrow.Author.Tests.{eqb-true, eq-eqb, ne-eqb}
@@ -17,7 +17,7 @@ use Rattle.roster.specs.declared.scan.Held.the-variants as held
 use Rattle.roster.specs.declared.scan.Tally.{Tally}
 use Rattle.roster.specs.declared.scan.Scanned.the-variants as scanned
 use Rattle.roster.proofs.Sorted.{below, lookup-low}
-use Rattle.roster.proofs.Decode.{Decoded, roster-sound}
+use Rattle.roster.proofs.Decode.{roster-sound}
 
 -- ── the tally of a list ──
 

@@ -16,14 +16,13 @@ use Rattle.tle.specs.declared.Line.{Line}
 use Rattle.tle.specs.declared.Line.the-variants.{One, Two}
 use Rattle.tle.proofs.Accepted.{accepted-are-legal}
 use Rattle.tle_writer.specs.Lines.{lineOf, bodyOf, closedOf, join}
-use Rattle.tle_writer.specs.Over.{over, Put}
+use Rattle.tle_writer.specs.Over.{over}
 use Rattle.tle_writer.specs.Write.{writtenOver}
 use Rattle.tle_writer.proofs.Overs.{and}
 use Rattle.tle_writer.proofs.Writes.{written, exactly, length-line}
 use Rattle.tle_writer.proofs.Round.{read-back}
 use Rattle.tle_writer.proofs.Facts.{facts}
 use Rattle.roster.specs.Roster.{pairBytes, allZero, same, asWritten, placeOf}
-use Rattle.roster.specs.declared.places.Place.{Place}
 use Rattle.roster.specs.declared.places.Place.the-variants as place
 use Rattle.roster.proofs.Tests.{same-equal, same-refl}
 

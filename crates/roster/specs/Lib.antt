@@ -3,5 +3,6 @@ pub mod Packed
 pub mod Roster
 pub mod Calls
 pub mod Claims
+pub mod Examples
 pub mod Scan
 pub mod Shift

@@ -1,15 +1,14 @@
 -- The contract of `run_script`, by its answer.
 use Prim.Native.Nat.{ℕ, _/_, _<_, _≤_}
 use mathlib.Core.Path.{_≡_, refl, ap, sym, _∙_}
-use mathlib.Core.Bool.{Bool, true, false}
+use mathlib.Core.Bool.{true, false}
 use mathlib.Core.List.{List, [], _∷_, _++_}
 use native.Mathlib.Omega.{arith}
 use borrow.Author.Tests.{le-leb, lt-leb}
-use lib.Dec.{eqb, leb}
+use lib.Dec.{leb}
 use lib.ListN.{length, drop}
-use Rattle.roster_script.specs.Total.{Call, answerTo, after, answersTo, afterAll, empty, accepted, Total}
+use Rattle.roster_script.specs.Total.{Call, after, answersTo, afterAll, empty, accepted, Total}
 use Rattle.roster_script.specs.Script.{script, needed, roomFor, ranOf, ranNumber, Post}
-use Rattle.roster_script.specs.declared.Ran.{Ran}
 use Rattle.roster_script.specs.declared.Ran.the-variants.{Done, Short}
 use Rattle.roster_script.proofs.Totals.{total}
 

@@ -1,5 +1,5 @@
 -- Total kept: over any calls from an empty roster, what is present is what was last accepted and not withdrawn since.
-use Prim.Native.Nat.{ℕ, _<_, _≤_}
+use Prim.Native.Nat.{ℕ, _≤_}
 use mathlib.Core.Path.{_≡_, refl, ap, sym, _∙_}
 use mathlib.Core.Bool.{Bool, true, false, cond}
 use mathlib.Core.List.{List, [], _∷_, _++_, append-nil, flatMap}
@@ -8,7 +8,6 @@ use native.Mathlib.Omega.{arith}
 use lib.Dec.{eqb}
 use lib.ListN.{length}
 use lib.Seq.{append-snoc}
-use Rattle.tle.specs.Legal.{legal}
 use Rattle.tle.specs.Read.{readOf}
 use Rattle.tle.specs.Refusals.{numberOf}
 use Rattle.tle.specs.declared.Record.{Record}

@@ -1,6 +1,6 @@
 -- The column that comes back with a pair that is not lodged is a column of its line.
 use Prim.Native.Nat.{ℕ}
-use mathlib.Core.Path.{_≡_, sym, _∙_}
+use mathlib.Core.Path.{_≡_, sym}
 use mathlib.Core.List.{List}
 use Rattle.roster.specs.Calls.{lodgingOf}
 use Rattle.roster.specs.declared.Lodging.{Lodging}

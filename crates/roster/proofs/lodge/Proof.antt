@@ -1,5 +1,5 @@
 use borrow.Author.Needs.{needs}
-use mathlib.Core.Path.{_≡_, sym, _∙_}
+use mathlib.Core.Path.{sym, _∙_}
 use denote.Ref.{now}
 use Rattle.tle.proofs.Accepted.{accepted-are-legal}
 use Rattle.roster.proofs.Standing.{unread, read}

@@ -1,6 +1,6 @@
 use borrow.Author.Needs.{needs}
 use native.Mathlib.Omega.{arith}
-use mathlib.Core.Path.{_≡_, sym, _∙_}
+use mathlib.Core.Path.{sym, _∙_}
 use denote.Ref.{now}
 use Rattle.roster.proofs.Found.{Found, found, no-roster}
 use Rattle.roster.proofs.Standing.{few, pair-fits, damaged, taken, absent}

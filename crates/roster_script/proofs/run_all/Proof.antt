@@ -1,6 +1,5 @@
 -- The invariant: what is left of the script, from the buffer and the room as they are, is the whole.
 use Prim.Native.Nat.{_-_, _/_}
-use mathlib.Core.Path.{_≡_, refl, sym, ap, _∙_}
 use native.Mathlib.Omega.{arith}
 use denote.Ref.{now}
 use lib.ListN.{length}
