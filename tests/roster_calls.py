@@ -18,7 +18,7 @@ from datetime import date
 from pathlib import Path
 
 sys.dont_write_bytecode = True
-from tle_pairs import EXAMPLE, Draw, judge, line1, line2, put, summed
+from tle_pairs import EXAMPLE, FIRST_PLACES, Draw, catalogue, judge, line1, line2, put, summed
 from written_lines import first, second
 
 PLACE = 138
@@ -32,10 +32,6 @@ EMPTY = bytes(SIZE)
 def spelt(one, two):
     """The pair as we write it."""
     return (first(one.decode()) + second(two.decode())).encode()
-
-
-def catalogue(pair):
-    return int(pair[2:7])
 
 
 def instant(pair):
@@ -143,8 +139,13 @@ class Steps:
         self.tell(*withdrawn(self.buffer, number))
 
 
+def places(number):
+    """The five places of a catalogue number."""
+    return [*FIRST_PLACES][number // 10000] + "%04d" % (number % 10000)
+
+
 def pair(number, year="00", day="179.78495062", **fields):
-    at = "%05d" % number
+    at = places(number)
     names = ("inclination", "node", "eccentricity", "perigee", "anomaly", "motion", "revolution")
     second_line = {name: fields.pop(name) for name in names if name in fields}
     return line1(number=at, year=year, day=day, **fields), line2(number=at, **second_line)
@@ -190,13 +191,13 @@ def instants(steps):
 def order(steps, draw):
     """Numbers in any order, taken out at the front, in between and at the end."""
     steps.length(SIZE)
-    for number in (500, 20, 99999, 0, 300, 21, 19):
-        at = "%05d" % number
+    for number in (500, 20, 99999, 0, 300, 180000, 21, 339999, 100000, 19, 179999):
+        at = places(number)
         steps.lodge(line1(**draw.fields1(at)), line2(**draw.fields2(at)))
-    for number in (0, 300, 22, 99999, 20):
+    for number in (0, 300, 22, 99999, 20, 340000, 180000, 339999):
         steps.withdraw(number)
     steps.lodge(*pair(300, year="56"))
-    for number in (19, 21, 300, 500, 500):
+    for number in (19, 21, 300, 100000, 500, 179999, 500):
         steps.withdraw(number)
 
 
@@ -218,11 +219,11 @@ def refusals_of_reading(steps):
 
 def full(steps, draw):
     """64 places: another number is 19, one that is there is replaced or older, and room is made."""
-    numbers = sorted(draw.rng.sample(range(1, 99999), PLACES))
+    numbers = sorted(draw.rng.sample(range(1, 339999), PLACES))
     pairs = [spelt(*pair(number, year="06", day="%03d.00000000" % (i + 1))) for i, number in enumerate(numbers)]
     steps.load(packed(pairs))
     steps.lodge(*pair(0))
-    steps.lodge(*pair(99999, year="56"))
+    steps.lodge(*pair(339999, year="56"))
     steps.lodge(*pair(numbers[0], year="07"))
     steps.lodge(*pair(numbers[63], year="05"))
     steps.lodge(*pair(numbers[63], year="08"))
