@@ -1,8 +1,9 @@
 #!/usr/bin/env python3
 """Prints test cases for the arithmetic on instants, one per line.
 
-Written from document 01 (headings "Instants" and "Numbers the model rests on")
-and from routine gstime of document 002, and from nothing else: the calendar is
+Written from document 01 (headings "Instants" and "Numbers the model rests on"),
+from wish 3 of document 02 (the last day of a year) and from routine gstime of
+document 002, and from nothing else: the calendar is
 Python's own, every number is a whole number or a fraction, and each f64
 operation is the exact result rounded once by Python's int / int.
 
@@ -12,7 +13,7 @@ numbers in two's complement, f64 numbers as their bit patterns.
 
   epoch YEAR DAY8 OK INSTANT      YEAR and the day of the year in 10^-8 days
                                   (January 1, 0h is 100000000); OK is 1 where
-                                  the year is 1957-2056 and 1 <= day < 367,
+                                  the year is 1957-2056 and has the day,
                                   otherwise 0, with INSTANT 0
   split INSTANT YEAR DAY MICROS   calendar year, day of the year from 1,
                                   microseconds of that day; zeros for an
@@ -54,6 +55,10 @@ def days_before(year):
     return date(year, 1, 1).toordinal() - date(FIRST_YEAR, 1, 1).toordinal()
 
 
+def days_in(year):
+    return days_before(year + 1) - days_before(year)
+
+
 END = days_before(LAST_YEAR + 1) * DAY
 
 
@@ -62,7 +67,7 @@ END = days_before(LAST_YEAR + 1) * DAY
 def epoch(year, day8):
     if not FIRST_YEAR <= year <= LAST_YEAR:
         return 0, 0
-    if not ONE_DAY8 <= day8 < 367 * ONE_DAY8:
+    if not ONE_DAY8 <= day8 < (days_in(year) + 1) * ONE_DAY8:
         return 0, 0
     return 1, days_before(year) * DAY + (day8 - ONE_DAY8) * LAST_DIGIT
 
@@ -159,22 +164,20 @@ def bits(x):
 
 
 def leap(year):
-    return days_before(year + 1) - days_before(year) == 366
+    return days_in(year) == 366
 
 
 def epoch_cases(rng):
     for year in range(FIRST_YEAR, LAST_YEAR + 1):
         yield year, ONE_DAY8
-        yield year, 366 * ONE_DAY8 + 99_999_999        # lawful in every year
-        if leap(year):
-            yield year, 60 * ONE_DAY8                   # February 29
-            yield year, 61 * ONE_DAY8                   # March 1
-        else:
-            yield year, 365 * ONE_DAY8 + 99_999_999
+        for last in (365, 366):                         # that of this year, and of others
+            yield year, (last + 1) * ONE_DAY8 - 1
+            yield year, (last + 1) * ONE_DAY8
+        yield year, 59 * ONE_DAY8                       # February 28
+        yield year, 60 * ONE_DAY8                       # February 29 or March 1
     for year in (1957, 1960, 2000, 2055, 2056):
-        for day8 in (0, 1, ONE_DAY8 - 1, ONE_DAY8 + 1, 366 * ONE_DAY8,
-                     367 * ONE_DAY8 - 1, 367 * ONE_DAY8, 367 * ONE_DAY8 + 1,
-                     999 * ONE_DAY8, 2**32, 2**63 - 1, 2**63, 2**64 - 1):
+        for day8 in (0, 1, ONE_DAY8 - 1, ONE_DAY8 + 1, 366 * ONE_DAY8 + 1, 366 * ONE_DAY8 + ONE_DAY8 // 2,
+                     367 * ONE_DAY8 + 1, 999 * ONE_DAY8, 2**32, 2**63 - 1, 2**63, 2**64 - 1):
             yield year, day8
     for year in (0, 1, 56, 57, 99, 1956, 2057, 2**16 + 1957, 2**32 + 1957,
                  2**63 - 1, 2**63, 2**64 - 1):

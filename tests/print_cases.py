@@ -1,8 +1,8 @@
 #!/usr/bin/env python3
 """Inputs of the program that prints a pair, and what it has to print of each.
 
-Written from document 01 ("One pair, printed", "The two lines"), from wish 1 of
-document 02 and from nothing else; which pairs are refused, and how, and what a
+Written from document 01 ("One pair, printed", "The two lines"), from wishes 1
+and 3 of document 02 and from nothing else; which pairs are refused, and how, and what a
 catalogue number with a letter is, are the reader's of tle_pairs.py.
 
   print_cases.py --write INPUT EXPECTED
@@ -17,7 +17,7 @@ import sys
 from pathlib import Path
 
 sys.dont_write_bytecode = True
-from tle_pairs import EXAMPLE, LENGTH, LETTERED, catalogue, judge, line1, line2, put, whole
+from tle_pairs import EXAMPLE, LAST_DAYS, LENGTH, LETTERED, catalogue, full_year, judge, line1, line2, put, whole
 
 ONE, TWO = EXAMPLE
 
@@ -37,12 +37,12 @@ def exponential(line, first):
 
 
 def fields(one, two):
-    year = whole(one, 19, 20)
+    year = full_year(whole(one, 19, 20))
     day, units = whole(one, 21, 23), whole(one, 25, 32)
     yield "number", catalogue(one)
     yield "class", one[7:8].decode()
     yield "designator", one[9:17].decode().strip() or "-"
-    yield "epoch", f"{year + (1900 if year >= 57 else 2000)} {day} {units * 864}"
+    yield "epoch", f"{year} {day} {units * 864}"
     yield "ndot", signed(one, 34, 43)
     yield "nddot", exponential(one, 45)
     yield "bstar", exponential(one, 54)
@@ -119,7 +119,9 @@ def inputs():
     yield pair(put(line1(number="A0000"), LENGTH, ord("9")), line2(number="A0000"))
     # Ranges.
     yield pair(line1(day="000.99999999"))
-    yield pair(line1(day="367.00000000"))
+    for year in ("57", "99", "00", "01", "56"):
+        for day in LAST_DAYS + ["366.50000000"]:
+            yield pair(line1(year=year, day=day))
     for field, text in (("inclination", "180.0001"), ("node", "360.0000"), ("perigee", "360.0000"),
                         ("anomaly", "360.0000"), ("motion", " 0.00000000")):
         yield pair(two=line2(**{field: text}))

@@ -1,9 +1,9 @@
 #!/usr/bin/env python3
 """An independent reader of two-line sets, and whole and damaged pairs to try it on.
 
-Written from document 01 ("The two lines", "Refusal numbers"), from wish 1 of
-document 02 (letters in catalogue numbers) and from nothing else. A field is the
-list of its lawful shapes; a column breaks the layout when no shape of its field
+Written from document 01 ("The two lines", "Refusal numbers"), from wishes 1 and
+3 of document 02 (letters in catalogue numbers, the last day of a year) and from
+nothing else. A field is the list of its lawful shapes; a column breaks the layout when no shape of its field
 agrees with the line up to it.
 
   tle_pairs.py --write INPUT EXPECTED [--seed N] [--random N]
@@ -128,9 +128,19 @@ def catalogue(line):
     return FIRST_PLACES[chr(line[2])] * 10000 + whole(line, 4, 7)
 
 
+def full_year(two_digits):
+    """57-99 are 1957-1999, 00-56 are 2000-2056."""
+    return two_digits + (1900 if two_digits >= 57 else 2000)
+
+
+def last_day(year):
+    """Wish 3: a common year ends at day 365.99999999; each year that 4 divides is a leap year, 2000 too."""
+    return 365 if year % 4 else 366
+
+
 def broken_range(line1, line2):
-    day = whole(line1, 21, 32)
-    if not 1_00000000 <= day < 367_00000000:
+    day, year = whole(line1, 21, 32), full_year(whole(line1, 19, 20))
+    if not 1_00000000 <= day < (last_day(year) + 1) * 1_00000000:
         return "day"
     if whole(line2, 9, 16) > 180_0000:
         return "inclination"
@@ -218,8 +228,9 @@ class Draw:
 
     def fields1(self, number):
         rng = self.rng
+        last = lambda year: last_day(full_year(int(year)))
         return dict(number=number, classification=rng.choice("UCS"), designator=self.designator(),
-                    year=self.digits(2), day="%03d.%s" % (rng.randint(1, 366), self.digits(8)),
+                    year=(year := self.digits(2)), day="%03d.%s" % (rng.randint(1, last(year)), self.digits(8)),
                     ndot=rng.choice(" +-") + "." + self.digits(8), nddot=self.exponential(),
                     bstar=self.exponential(), type=self.digits(1),
                     set=self.right_set(rng.randrange(10 ** rng.randint(1, 4)), 4))
@@ -442,9 +453,23 @@ WITHIN = dict(inclination=["180.0000", "179.9999", "  0.0000", "000.0000", "  0.
               perigee=["359.9999", "  0.0000", "180.0001"],
               anomaly=["359.9999", "  0.0000", "180.0001"],
               motion=[" 0.00000001", "99.99999999", " 1.00000000", "10.00000000"])
-DAYS_BEYOND = ["000.00000000", "000.99999999", "367.00000000", "367.00000001", "400.00000000",
-               "999.99999999", "000.00000001"]
-DAYS_WITHIN = ["001.00000000", "365.99999999", "366.00000000", "366.99999999", "060.00000000"]
+DAYS = ["000.00000000", "000.99999999", "367.00000000", "367.00000001", "400.00000000",
+        "999.99999999", "000.00000001", "001.00000000", "060.00000000", "366.50000000"]
+LAST_DAYS = ["365.99999999", "366.00000000", "366.99999999", "367.00000000"]
+
+
+def days():
+    """Wish 3: the ends of years, at both ends of the calendar and around 2000."""
+    years = [*range(1957, 1966), *range(1995, 2006), *range(2051, 2057)]
+    for year, text in itertools.product(years, LAST_DAYS):
+        yield line1(year="%02d" % (year % 100), day=text), EXAMPLE[1]
+    # The fields of line 2 come after the day, the layout, checksums and numbers before it.
+    short = dict(year="01", day="366.50000000")
+    for field, texts in BEYOND.items():
+        yield line1(**short), line2(**{field: texts[0]})
+    yield line1(**short), line2(number="00006")
+    yield line1(**short), put(EXAMPLE[1], 12, ord(","))
+    yield put(line1(**short), LENGTH, ord("0")), EXAMPLE[1]
 
 
 def ranges():
@@ -452,7 +477,7 @@ def ranges():
         for field, texts in table.items():
             for text in texts:
                 yield EXAMPLE[0], line2(**{field: text})
-    for text in DAYS_BEYOND + DAYS_WITHIN:
+    for text in DAYS:
         for year in ("00", "56", "57", "99", "01"):
             yield line1(day=text, year=year), EXAMPLE[1]
     # Every set of fields out of range together: the first in column order counts.
@@ -530,6 +555,7 @@ def pairs(published, seed, count):
     yield from numbers()
     yield from letters()
     yield from ranges()
+    yield from days()
     yield from whole_pairs(draw, count)
     yield from edge_columns(draw, count)
     yield from several(draw, count)

@@ -1,16 +1,17 @@
 #!/usr/bin/env python3
 """Pairs to be written anew, and what becomes of the rooms that are lent.
 
-Written from document 01 ("The two lines", "Refusal numbers"), from wish 1 of
-document 02 and from nothing else. The pairs are spelt in other ways than the
+Written from document 01 ("The two lines", "Refusal numbers"), from wishes 1
+and 3 of document 02 and from nothing else. The pairs are spelt in other ways than the
 writer's: zeros for blanks, plus signs, a minus before a zero, `+0` for `-0`. A
 catalogue number, with a letter or without, has one form only.
 
   written_lines.py --write INPUT EXPECTED
-      writes the pairs, and for each line of each pair five rooms as they are
-      afterwards: of 80, 69 and 68 bytes, of 80 for an inclination of 180.0001,
-      and of 80 for the catalogue number 340000. Before each stand the refusal
-      and the bytes handed back.
+      writes the pairs, and for each line of each pair eight rooms as they are
+      afterwards: of 80, 69 and 68 bytes; and of 80 for an inclination of
+      180.0001, for the catalogue number 340000, for day 366.00000000 of 2001,
+      for day 366.99999999 of 2055 and for day 367.00000000 of 2000. Before each
+      stand the refusal and the bytes handed back.
 """
 
 import argparse
@@ -73,13 +74,16 @@ def pairs():
     for number in LETTERED:
         yield (summed(f"1 {number}U 58002B   00179.78495062 +.00000023 +00000+0 +28098-4 0 0475"),
                summed(f"2 {number} 034.2682 348.7242 1859667 331.7664 019.3264 10.8241915741366"))
+    # The last units of common and leap years.
+    for epoch in ("57365.99999999", "60366.00000000", "00366.00000000", "00366.99999999", "01365.99999999"):
+        yield summed(f"1 00005U 58002B   {epoch} +.00000023 +00000+0 +28098-4 0 0475"), two
 
 
 def rooms(line):
     yield f"0 69 {line}" + "#" * 11
     yield f"0 69 {line}"
     yield "17 68 " + "#" * 68
-    for _ in range(2):
+    for _ in range(5):
         yield "16 80 " + "#" * 80
 
 

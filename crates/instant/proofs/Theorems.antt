@@ -1,17 +1,19 @@
 -- The theorems of the calendar, over its definitions. Assumes nothing.
 use mathlib.Core.Path.{_≡_, refl, sym, ap, _∙_, subst}
-use mathlib.Core.Bool.{Bool, true, cond}
+use mathlib.Core.Bool.{Bool, true, false, cond}
 use Prim.Native.Nat.{ℕ, suc, _+_, _-_, _*_, _/_, _%_, _≤_, _<_}
 use native.Mathlib.Omega.{arith}
+use borrow.Author.Tests.{ltb-true}
 use lib.IntN.{ℤ, pos, _+ℤ_, +ℤ-invr}
-use Rattle.instant.specs.Calendar.{dayMicros, unitMicros, daysIn, daysBefore, calendarEnd, yearInRange, dayInRange, together, epochMicros, epochOf, yearsSince, dateOf}
+use Rattle.instant.specs.Calendar.{dayMicros, unitMicros, daysIn, daysBefore, calendarEnd, inCalendar, yearInRange, dayInRange, together, epochMicros, epochOf, yearsSince, dateOf}
 use Rattle.instant.specs.Move.{moveOf}
 use Rattle.instant.specs.Since.{sinceOf}
-use Rattle.instant.specs.Claims.{SinceThenMove, MoveThenSince, SinceItself}
+use Rattle.instant.specs.Claims.{EpochsApart, EpochsDiffer, DatesAreEpochs, SinceThenMove, MoveThenSince, SinceItself}
+use Rattle.instant.specs.declared.Date.{Date}
 use Rattle.instant.specs.declared.Dated.{Dated}
 use Rattle.instant.specs.declared.Dated.the-variants as dated
 use Rattle.instant.specs.declared.Epoch.the-variants as epoch
-use Rattle.instant.proofs.Calendar.{calendar-end, days-before, year-bounds, day-bounds, year-begun, year-not-over, inside}
+use Rattle.instant.proofs.Calendar.{calendar-end, days-before, last-day-counts, year-bounds, day-ends, day-within, year-within, day-bounds, year-begun, year-not-over, inside}
 use Rattle.instant.proofs.Move.{move-made}
 use Rattle.instant.proofs.Difference.{reached-sum, sum-since, since-sum, since-given}
 
@@ -106,6 +108,69 @@ together-apart t year day micros p =
     let g : t < 3155760000000000 = (let x = days-before (suc k) in omega arith) in
     let e : days - daysBefore k + 1 ≡ day = omega arith in
     simp (inside t g, sym n, r, y, e)
+
+-- ---- each epoch has one date and one instant
+
+pub epochs-apart : EpochsApart
+unfolding epochMicros together
+epochs-apart year day y h =
+    let b = year-bounds year y in
+    let d = day-ends year day h in
+    let l = last-day-counts year in
+    let w : together year (day / 100000000) (day % 100000000 * unitMicros) ≡ epochMicros year day = omega arith in
+    together-apart (epochMicros year day) year (day / 100000000) (day % 100000000 * unitMicros) (record {
+      first = b .0;
+      last = b .1;
+      day-from = omega (arith, d .0);
+      day-to = omega (arith, d .1, l);
+      time = omega arith;
+      whole = w;
+    })
+
+abbrev yearOf : Dated → ℕ
+yearOf (dated.On d) = d .year
+yearOf dated.Outside = 0
+
+abbrev dayOf : Dated → ℕ
+dayOf (dated.On d) = d .day
+dayOf dated.Outside = 0
+
+abbrev timeOf : Dated → ℕ
+timeOf (dated.On d) = d .micros
+timeOf dated.Outside = 0
+
+pub epochs-differ : EpochsDiffer
+epochs-differ year day year' day' y h y' h' e =
+    let s = sym (epochs-apart year day y h) ∙ ap dateOf e ∙ epochs-apart year' day' y' h' in
+    let d : day / 100000000 ≡ day' / 100000000 = ap dayOf s in
+    let m : day % 100000000 * unitMicros ≡ day' % 100000000 * unitMicros = ap timeOf s in
+    (ap yearOf s, omega arith)
+
+-- an instant that has a date is one of the calendar
+dated-inside : (t : ℕ) (b : Bool) (x d : Date) → inCalendar t ≡ b → cond b (dated.On x) dated.Outside ≡ dated.On d → t < calendarEnd
+unfolding inCalendar
+dated-inside t true x d h e = ltb-true t calendarEnd h
+dated-inside t false x d h e = let z : _≡_ {A = ℕ} 0 1 = ap (λ (a : Dated). given a) e in absurd (omega arith)
+  where
+    given : Dated → ℕ
+    given (dated.On y) = 1
+    given dated.Outside = 0
+
+-- so its parts are those of the date
+dated-parts : (t : ℕ) (d : Date) → dateOf t ≡ dated.On d → Parts t (d .year) (d .day) (d .micros)
+unfolding dateOf
+dated-parts t d e = subst (Apart t) e (apart-together t (dated-inside t (inCalendar t) _ d refl e))
+
+pub dates-are-epochs : DatesAreEpochs
+unfolding epochMicros together
+dates-are-epochs t year day units e =
+    let p = dated-parts t (record { year = year; day = day; micros = units * unitMicros }) e in
+    let d = day * 100000000 + units in
+    let w : (daysBefore (year - 1957) + (day - 1)) * dayMicros + units * unitMicros ≡ t = p .whole in
+    let s : epochMicros year d ≡ t = omega (arith, p .day-from, w) in
+    let y = year-within year (p .first) (p .last) in
+    let h = day-within year d (omega (arith, p .day-from)) (omega (arith, p .day-to, p .time, last-day-counts year)) in
+    epoch-inside year d y h .0 ∙ ap (λ (z : ℕ). epoch.At (record { 0 = z })) s
 
 -- ---- time since an epoch, and moves
 pub since-then-move : SinceThenMove

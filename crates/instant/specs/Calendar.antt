@@ -32,9 +32,9 @@ calendarEnd = daysBefore 100 * dayMicros
 unfoldable pub inCalendar : ℕ → Bool
 inCalendar t = ltb t calendarEnd
 
--- The last day that an epoch of the year may have. Document 01: "day from 1 up to, but not including, 367", in every year
+-- The last day that an epoch of the year may have. Document 02, wish 3: "a common year ends at day 365.99999999"
 unfoldable pub lastDay : ℕ → ℕ
-lastDay year = 366
+lastDay year = daysIn year
 
 -- a day of the year in units of 10 ^ -8 day; January 1, 0h, is 100000000
 unfoldable pub dayInRange : ℕ → ℕ → Bool

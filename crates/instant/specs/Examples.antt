@@ -1,6 +1,8 @@
 -- Worked examples.
 use mathlib.Core.Path.{_≡_, refl}
 use mathlib.Core.Bool.{false}
+use mathlib.Core.List.{[], _∷_, map}
+use Prim.Native.Nat.{_-_, _*_}
 use lib.IntN.{pos, negsuc}
 use lib.Ieee.{fin, add, sum, round, units, odd, size, span, climb}
 use lib.Count.{trailingZeros}
@@ -25,13 +27,31 @@ vanguard-date : dateOf 1372359019733568 ≡ dated.On (record { year = 2000; day 
 unfolding dateOf inCalendar calendarEnd yearsSince daysBefore daysIn
 vanguard-date = refl
 
--- day 366 of a common year is January 1 of the next; day 367 is no day
-day-366 : epochOf 1957 36600000000 ≡ epochOf 1958 100000000
+-- document 02, wish 3: the first year, a common one, ends at day 365.99999999, one unit before January 1 of the next
+day-365 : epochOf 1957 36599999999 ≡ epoch.At (record { 0 = 365 * 86400000000 - 864 })
 unfolding epochOf yearInRange dayInRange lastDay epochMicros daysBefore daysIn
+day-365 = refl
+
+day-366 : map (λ year. epochOf year 36600000000) (1957 ∷ 1999 ∷ 2001 ∷ 2055 ∷ [])
+    ≡ epoch.Outside ∷ epoch.Outside ∷ epoch.Outside ∷ epoch.Outside ∷ []
+unfolding epochOf yearInRange dayInRange lastDay daysIn
 day-366 = refl
 
+-- 2000 is a leap year, and the last one ends the calendar
+leap-2000 : dateOf 1388534399999136 ≡ dated.On (record { year = 2000; day = 366; micros = 86399999136 })
+unfolding dateOf inCalendar calendarEnd yearsSince daysBefore daysIn
+leap-2000 = refl
+
+day-366-2000 : epochOf 2000 36699999999 ≡ epoch.At (record { 0 = 1388534399999136 })
+unfolding epochOf yearInRange dayInRange lastDay epochMicros daysBefore daysIn
+day-366-2000 = refl
+
+day-366-2056 : epochOf 2056 36699999999 ≡ epoch.At (record { 0 = 3155760000000000 - 864 })
+unfolding epochOf yearInRange dayInRange lastDay epochMicros daysBefore daysIn
+day-366-2056 = refl
+
 day-367 : epochOf 1960 36700000000 ≡ epoch.Outside
-unfolding epochOf yearInRange dayInRange lastDay
+unfolding epochOf yearInRange dayInRange lastDay daysIn
 day-367 = refl
 
 last-instant : dateOf 3155759999999999 ≡ dated.On (record { year = 2056; day = 366; micros = 86399999999 })

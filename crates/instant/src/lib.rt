@@ -231,7 +231,10 @@ fn days_before(years: u64) -> u64
 fn last_day(year: u64) -> u64
     ensures { λ r. ⌜ r ≡ lastDay year ⌝ }
 {
-    366
+    if year % 4 == 0 {
+        return 366;
+    }
+    365
 }
 
 // Whether an epoch may have this day of the year, in units of 10 ^ -8 day; January 1, 0h, is

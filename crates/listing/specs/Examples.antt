@@ -6,7 +6,7 @@ use Prim.Native.String.{String}
 use lib.ListN.{take}
 use Rattle.text.specs.Output.{bytes, spell, signed, glyph, places, line}
 use Rattle.text.specs.Input.{lineOf, restOf}
-use Rattle.instant.specs.Calendar.{lastDay, dayInRange}
+use Rattle.instant.specs.Calendar.{daysIn, lastDay, dayInRange}
 use Rattle.columns.specs.Layout.{agreed}
 use Rattle.tle.specs.Number as tle-number
 use Rattle.columns.specs.Sum.{digitOf, sum}
@@ -48,7 +48,7 @@ example : pairText (lines
     ∷ "motion 1082419157"
     ∷ "revolution 41366"
     ∷ [])
-unfolding pairText lines lineOf restOf readOf formOf pairOf verdictOf agreed sum fieldsOf rangesOf dayInRange lastDay numberAt catalogueOf firstOf position classOf designatorAt yearOf dayAt ndotAt scaledAt degreesAt motionAt valueOn digitOf tle-number.signed minus readingText recordText fields1 fields2 scaledText epochText designatorText trimmed letter line places glyph signed spell
+unfolding pairText lines lineOf restOf readOf formOf pairOf verdictOf agreed sum fieldsOf rangesOf dayInRange lastDay daysIn numberAt catalogueOf firstOf position classOf designatorAt yearOf dayAt ndotAt scaledAt degreesAt motionAt valueOn digitOf tle-number.signed minus readingText recordText fields1 fields2 scaledText epochText designatorText trimmed letter line places glyph signed spell
 example = refl
 
 -- document 02, wish 1: the number of a pair with a letter, in decimal
@@ -57,7 +57,7 @@ letters : take 14 (pairText (lines
     ∷ "2 Z9999  34.2682 348.7242 1859667 331.7664  19.3264 10.82419157413668"
     ∷ [])))
     ≡ bytes "number 339999\n"
-unfolding pairText lines lineOf restOf readOf formOf pairOf verdictOf agreed sum fieldsOf rangesOf dayInRange lastDay numberAt catalogueOf firstOf position classOf designatorAt yearOf dayAt ndotAt scaledAt degreesAt motionAt valueOn digitOf tle-number.signed minus readingText recordText fields1 fields2 scaledText epochText designatorText trimmed letter line places glyph signed spell
+unfolding pairText lines lineOf restOf readOf formOf pairOf verdictOf agreed sum fieldsOf rangesOf dayInRange lastDay daysIn numberAt catalogueOf firstOf position classOf designatorAt yearOf dayAt ndotAt scaledAt degreesAt motionAt valueOn digitOf tle-number.signed minus readingText recordText fields1 fields2 scaledText epochText designatorText trimmed letter line places glyph signed spell
 letters = refl
 
 refused-text : readingText (Refused (Range Day)) ≡ bytes "refused 6\n"

@@ -1,7 +1,7 @@
 // Writes each pair of standard input anew and prints what becomes of the room that is lent: the number
 // that write_line tells, how many bytes it hands back, and the whole room. The rooms are longer than a
-// line, exactly a line, and a byte too short; then two records that no line can hold. The input has 140
-// bytes a pair: two lines of 69, each ended by a newline.
+// line, exactly a line, and a byte too short; then records that no line can hold. The input has 140 bytes
+// a pair: two lines of 69, each ended by a newline.
 use text::put_byte;
 use text::put_bytes;
 use text::put_decimal;
@@ -50,6 +50,14 @@ fn print_short(failed: &mut bool, r: Record, which: Line) {
     print_room(failed, why, handed, &room);
 }
 
+// With another epoch.
+fn print_on(failed: &mut bool, r: Record, which: Line, year: u64, day: u64) {
+    let mut other = r;
+    other.year = year;
+    other.day = day;
+    print_longer(failed, other, which);
+}
+
 fn print_line(failed: &mut bool, r: Record, which: Line) {
     print_longer(failed, r, which);
     print_exact(failed, r, which);
@@ -60,6 +68,9 @@ fn print_line(failed: &mut bool, r: Record, which: Line) {
     let mut beyond = r;
     beyond.number = 340000;
     print_longer(failed, beyond, which);
+    print_on(failed, r, which, 2001, 36600000000);
+    print_on(failed, r, which, 2055, 36699999999);
+    print_on(failed, r, which, 2000, 36700000000);
 }
 
 fn print_pair(failed: &mut bool, line1: &[u8], line2: &[u8]) {

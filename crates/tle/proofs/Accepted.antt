@@ -1,4 +1,5 @@
--- The record of every pair of lines that reading accepts is legal, and the epoch of a legal record is inside 1957-2056.
+-- The record of every pair of lines that reading accepts is legal; the epoch of a legal record is inside 1957-2056, and its date is the
+-- record's.
 use Prim.Native.Nat.{ℕ, zero, suc, _+_, _*_, _<_, _≤_, _^_}
 use mathlib.Core.Path.{_≡_, refl, ap, sym, _∙_}
 use mathlib.Core.List.{List}
@@ -8,11 +9,12 @@ use borrow.Author.Tests.{lt-ltb, le-leb, leb-true, leb-false}
 use lib.Dec.{eqb, leb, ltb}
 use lib.IntN.{natAbs, pos}
 use Rattle.instant.specs.Calendar.{dayInRange, yearInRange, epochOf}
+use Rattle.instant.proofs.Theorems.{epochs-apart}
 use Rattle.columns.specs.Layout.{layout1, layout2}
 use Rattle.tle.specs.Number.{field, minus, signed}
 use Rattle.tle.specs.Legal.{inclinationInRange, angleInRange, motionInRange, inRanges, designatorFits, scaledFits, inLayout, legal}
 use Rattle.tle.specs.Read.{unless, verdictOf, pairOf, numberAt, yearOf, minusAt, ndotAt, scaledAt, motionAt, fieldsOf, formed, formOf, rangesOf, ranged, readOf}
-use Rattle.tle.specs.Claims.{AcceptedAreLegal, EpochsInside}
+use Rattle.tle.specs.Claims.{AcceptedAreLegal, EpochsInside, EpochsDated}
 use Rattle.tle.specs.declared.Record.{Record}
 use Rattle.tle.specs.declared.Line.the-variants.{One}
 use Rattle.tle.specs.declared.Field.the-variants.{Day, Inclination, Node, Perigee, Anomaly, Motion}
@@ -144,3 +146,9 @@ day-in r q =
 pub epochs-inside : EpochsInside
 unfolding legal epochOf
 epochs-inside r q = let h = halves (inLayout r) (inRanges r) q in rw (year-in r (h .0), day-in r (h .1))
+
+pub epochs-dated : EpochsDated
+unfolding legal
+epochs-dated r q =
+    let h = halves (inLayout r) (inRanges r) q in
+    epochs-apart (r .year) (r .day) (year-in r (h .0)) (day-in r (h .1))

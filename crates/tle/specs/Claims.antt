@@ -1,10 +1,11 @@
 -- What is claimed of reading, beyond its definition. Proved in proofs/Least.antt, proofs/Accepted.antt and proofs/FirstPlaces.antt.
-use Prim.Native.Nat.{ℕ}
+use Prim.Native.Nat.{ℕ, _*_, _/_, _%_}
 use mathlib.Core.Path.{_≡_}
 use mathlib.Core.Bool.{true, false}
 use mathlib.Core.List.{List, _∷_, _++_}
 use lib.ListN.{length}
-use Rattle.instant.specs.Calendar.{epochMicros, epochOf}
+use Rattle.instant.specs.Calendar.{unitMicros, epochMicros, epochOf, dateOf}
+use Rattle.instant.specs.declared.Dated.the-variants as dated
 use Rattle.instant.specs.declared.Epoch.the-variants as epoch
 use Rattle.text.specs.Output.{bytes}
 use Rattle.columns.specs.Layout.{layout1, layout2, opensNumber}
@@ -39,6 +40,12 @@ AcceptedAreLegal = (line1 line2 : List ℕ) (r : Record) → readOf line1 line2 
 -- the epoch of a legal record is an instant inside 1957-2056
 abbrev pub EpochsInside : Type 0
 EpochsInside = (r : Record) → legal r ≡ true → epochOf (r .year) (r .day) ≡ epoch.At (record { 0 = epochMicros (r .year) (r .day) })
+
+-- document 02, wish 3: that instant, taken apart, is the record's own year, day and time of the day
+abbrev pub EpochsDated : Type 0
+EpochsDated =
+    (r : Record) → legal r ≡ true
+    → dateOf (epochMicros (r .year) (r .day)) ≡ dated.On (record { year = r .year; day = r .day / 100000000; micros = r .day % 100000000 * unitMicros })
 
 -- document 02, wish 1: a byte in column 3 that is neither a digit nor a letter A-Z without I and O is refusal 3 at that column
 pub record OtherFirstPlaces : Type 0 where

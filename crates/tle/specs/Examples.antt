@@ -1,11 +1,11 @@
--- 002's example: its two lines, and the record that reading them gives; catalogue numbers with letters. Document 01's cases at the edges
--- are in crate edge_cases.
+-- 002's example: its two lines, and the record that reading them gives; catalogue numbers with letters; last days of years. Document 01's
+-- cases at the edges, and pairs with such days, are in crate edge_cases.
 use Prim.Native.Nat.{ℕ}
 use mathlib.Core.Path.{_≡_, refl}
 use mathlib.Core.List.{List, [], _∷_, map}
 use mathlib.Core.Bool.{true, false}
 use lib.IntN.{pos, negsuc}
-use Rattle.instant.specs.Calendar.{lastDay, dayInRange}
+use Rattle.instant.specs.Calendar.{daysIn, lastDay, dayInRange}
 use Rattle.text.specs.Output.{bytes}
 use Rattle.columns.specs.Layout.{agreed}
 use Rattle.columns.specs.Sum.{digitOf, sum}
@@ -25,14 +25,14 @@ line1 = bytes "1 00005U 58002B   00179.78495062  .00000023  00000-0  28098-4 0  
 abbrev pub line2 : List ℕ
 line2 = bytes "2 00005  34.2682 348.7242 1859667 331.7664  19.3264 10.82419157413667"
 
--- its record, with the catalogue number n
-abbrev pub numbered : ℕ → Record
-numbered n = record {
-  number = n;
+-- its record, with another catalogue number and another epoch
+abbrev pub varied : ℕ → ℕ → ℕ → Record
+varied number year day = record {
+  number = number;
   class = Unclassified;
   designator = Piece 58002 66 32 32;
-  year = 2000;
-  day = 17978495062;
+  year = year;
+  day = day;
   ndot = pos 23;
   nddot = record { mantissa = pos 0; exponent = pos 0 };
   bstar = record { mantissa = pos 28098; exponent = negsuc 3 };
@@ -47,11 +47,17 @@ numbered n = record {
   revolution = 41366;
 }
 
+abbrev pub numbered : ℕ → Record
+numbered number = varied number 2000 17978495062
+
+abbrev pub stamped : ℕ → ℕ → Record
+stamped year day = varied 5 year day
+
 abbrev pub vanguard : Record
 vanguard = numbered 5
 
 pub example : readOf line1 line2 ≡ reading.Record vanguard
-unfolding readOf formOf pairOf verdictOf agreed sum fieldsOf rangesOf dayInRange lastDay numberAt catalogueOf firstOf position classOf designatorAt yearOf dayAt ndotAt scaledAt degreesAt motionAt valueOn digitOf signed minus
+unfolding readOf formOf pairOf verdictOf agreed sum fieldsOf rangesOf dayInRange lastDay daysIn numberAt catalogueOf firstOf position classOf designatorAt yearOf dayAt ndotAt scaledAt degreesAt motionAt valueOn digitOf signed minus
 example = refl
 
 -- document 02, wish 1: the numbers at the ends of each row of letters
@@ -63,9 +69,18 @@ letters = refl
 
 -- the largest of a record, and one too large
 pub largest : legal (numbered 339999) ≡ true
-unfolding legal inLayout inRanges designatorFits scaledFits dayInRange lastDay
+unfolding legal inLayout inRanges designatorFits scaledFits dayInRange lastDay daysIn
 largest = refl
 
 pub too-large : legal (numbered 340000) ≡ false
-unfolding legal inLayout inRanges designatorFits scaledFits dayInRange lastDay
+unfolding legal inLayout inRanges designatorFits scaledFits dayInRange lastDay daysIn
 too-large = refl
+
+-- document 02, wish 3: day 366.5 of 2000 and of 2001
+pub long-year : legal (stamped 2000 36650000000) ≡ true
+unfolding legal inLayout inRanges designatorFits scaledFits dayInRange lastDay daysIn
+long-year = refl
+
+pub short-year : legal (stamped 2001 36650000000) ≡ false
+unfolding legal inLayout inRanges designatorFits scaledFits dayInRange lastDay daysIn
+short-year = refl

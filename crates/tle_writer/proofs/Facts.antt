@@ -1,5 +1,5 @@
 -- What `legal` says of each field.
-use Prim.Native.Nat.{ℕ, _+_, _*_, _<_, _≤_, _^_}
+use Prim.Native.Nat.{ℕ, _<_, _≤_, _^_}
 use mathlib.Core.Path.{_≡_, refl}
 use mathlib.Core.Bool.{Bool, true, false, _&&_}
 use mathlib.Core.List.{List, [], _∷_}
@@ -7,7 +7,8 @@ use native.Mathlib.Omega.{arith}
 use borrow.Author.Tests.{ltb-true, leb-true}
 use lib.Dec.{ltb, leb}
 use lib.IntN.{natAbs}
-use Rattle.instant.specs.Calendar.{lastDay, dayInRange}
+use Rattle.instant.specs.Calendar.{dayInRange}
+use Rattle.instant.proofs.Calendar.{day-bounds}
 use Rattle.tle.specs.Legal.{legal, inLayout, inRanges, designatorFits, scaledFits}
 use Rattle.tle.specs.declared.Record.{Record}
 
@@ -85,7 +86,4 @@ facts r h =
 
 -- a day in range has three places before the point
 pub day-below : (year day : ℕ) → dayInRange year day ≡ true → day < 10 ^ 11
-unfolding dayInRange lastDay
-day-below year day h =
-    let t = both (leb 100000000 day) (ltb day ((lastDay year + 1) * 100000000)) h in
-    omega (arith, ltb-true day ((lastDay year + 1) * 100000000) (t .1))
+day-below year day h = omega (arith, day-bounds year day h)

@@ -1,10 +1,12 @@
--- The example of 002, as document 01 prints it: written from its record, byte for byte; catalogue numbers with letters.
+-- The example of 002, as document 01 prints it: written from its record, byte for byte; catalogue numbers with letters; a day that its
+-- year has not.
 use Prim.Native.Nat.{ℕ}
 use mathlib.Core.Path.{_≡_, refl}
 use mathlib.Core.List.{List, [], _∷_, map}
 use Rattle.text.specs.Output.{bytes}
-use Rattle.tle.specs.Examples.{line1, line2, numbered, vanguard}
-use Rattle.tle.specs.Legal.{inLayout, legal}
+use Rattle.tle.specs.Examples.{line1, line2, numbered, stamped, vanguard}
+use Rattle.tle.specs.Legal.{inRanges, designatorFits, scaledFits, inLayout, legal}
+use Rattle.instant.specs.Calendar.{daysIn, lastDay, dayInRange}
 use Rattle.columns.specs.Sum.{sum, digitOf}
 use Rattle.tle.specs.Read.{letter}
 use Rattle.tle.specs.declared.Line.the-variants.{One, Two}
@@ -29,3 +31,8 @@ letters = refl
 pub too-large : (out : List ℕ) → numberOf (writingOf (numbered 340000) out) ≡ 16
 unfolding writingOf legal inLayout
 too-large out = refl
+
+-- document 02, wish 3: day 366.5 of 2001
+pub short-year : (out : List ℕ) → numberOf (writingOf (stamped 2001 36650000000) out) ≡ 16
+unfolding writingOf legal inLayout inRanges designatorFits scaledFits dayInRange lastDay daysIn
+short-year out = refl
