@@ -1,4 +1,4 @@
--- Document 01, "Cases at the edges": every case marked P holds, in one statement over the list of them.
+-- Document 01, "Cases at the edges", and cases of document 02: every case holds, in one statement over the list of them.
 use mathlib.Core.Path.{_≡_, refl}
 use mathlib.Core.Bool.{true}
 use mathlib.Core.List.{List, [], _∷_, _++_, map}
@@ -18,7 +18,7 @@ use Rattle.opening.specs.Opening.{openOf}
 use Rattle.sgp4.specs.Sgp4.{integratorOf}
 use Rattle.sequences.specs.Edges as E
 use Rattle.sequences.proofs.Edges as R
-use Rattle.edge_cases.specs.Cases.{Case, strides, outcome, Claim, Every, lines, edges}
+use Rattle.edge_cases.specs.Cases.{Case, strides, outcome, Claim, Every, lines, days, edges}
 
 lines-hold : Every Claim lines
 unfolding Every Claim outcome lines readOf formOf pairOf verdictOf agreed sum digitOf valueOn numberAt catalogueOf firstOf position fieldsOf rangesOf yearOf dayAt motionAt degreesAt dayInRange lastDay valuesOf epochMicros daysBefore daysIn
@@ -63,6 +63,10 @@ lines-hold = (
   ),
 )
 
+days-hold : Every Claim days
+unfolding Every Claim outcome days readOf formOf pairOf verdictOf agreed sum digitOf valueOn numberAt catalogueOf firstOf position fieldsOf rangesOf yearOf dayAt motionAt degreesAt dayInRange lastDay daysIn valuesOf
+days-hold = (refl, ((refl, refl), ((refl, refl), (refl, ((refl, refl), (refl, tt))))))
+
 -- what holds of every newly opened resonant satellite, case by case
 strides-hold : (es : List E.Edge)
     → ((r : Record) (s : Satellite) → openOf r ≡ Opened s → resonant (integratorOf (s .model) .resonance) ≡ true → E.Each s es)
@@ -78,4 +82,5 @@ both (x ∷ xs) ys p q = (p .0, both xs ys (p .1) q)
 
 pub edges-hold : Every Claim edges
 unfolding edges
-edges-hold = both lines (map strides E.edges) lines-hold (strides-hold E.edges R.edges-hold)
+edges-hold =
+    both (lines ++ days) (map strides E.edges) (both lines days lines-hold days-hold) (strides-hold E.edges R.edges-hold)

@@ -1,4 +1,4 @@
--- Document 01, "Cases at the edges": the cases marked P as data, what each claims, and the list of them.
+-- Document 01, "Cases at the edges": the cases marked P as data, what each claims, and the list of them; with them cases of document 02.
 use Prim.Native.Nat.{ℕ, _%_}
 use mathlib.Core.Path.{_≡_}
 use mathlib.Core.Bool.{true}
@@ -96,6 +96,20 @@ lines =
     ∷ refuses (with1 (bytes "1 00005U 58002B   00000.99999999  .00000023  00000-0  28098-4 0  4757")) 6 (field Day)
     ∷ []
 
--- all cases marked P: those of lines, and those that count strides (specs/Edges of requests)
+-- document 02, wish 3: a common year ends at day 365.99999999, a leap year, 2000 among them, at 366.99999999
+unfoldable pub days : List Case
+days =
+    -- 01366.5 is 6, 00366.5 is read
+    refuses (with1 (bytes "1 00005U 58002B   01366.50000000  .00000023  00000-0  28098-4 0  4756")) 6 (field Day)
+    ∷ reads (with1 (bytes "1 00005U 58002B   00366.50000000  .00000023  00000-0  28098-4 0  4755")) (λ r. r .day) 36650000000
+    -- 57365.99999999 is read, 57366.00000000 is 6
+    ∷ reads (with1 (bytes "1 00005U 58002B   57365.99999999  .00000023  00000-0  28098-4 0  4753")) (λ r. r .day) 36599999999
+    ∷ refuses (with1 (bytes "1 00005U 58002B   57366.00000000  .00000023  00000-0  28098-4 0  4752")) 6 (field Day)
+    -- 56366.99999999 is read, 00367.00000000 is 6
+    ∷ reads (with1 (bytes "1 00005U 58002B   56366.99999999  .00000023  00000-0  28098-4 0  4753")) (λ r. r .day) 36699999999
+    ∷ refuses (with1 (bytes "1 00005U 58002B   00367.00000000  .00000023  00000-0  28098-4 0  4751")) 6 (field Day)
+    ∷ []
+
+-- all cases: those of lines and of days, and those that count strides (specs/Edges of sequences)
 unfoldable pub edges : List Case
-edges = lines ++ map strides E.edges
+edges = lines ++ days ++ map strides E.edges
