@@ -3,13 +3,13 @@
 
 use crate::elementary::Document;
 use crate::generate::{self, Aim, Ask, Call, AIMS, DAMAGES};
-use crate::instant::DAY;
+use crate::instant::{self, DAY};
 use crate::library::{Library, Opened};
 use crate::random::Random;
 use crate::request::{Row, Satellite, Saved};
 use crate::roster;
 use crate::sgp4::{self, Elements};
-use crate::tle::{self, Record, Refusal};
+use crate::tle::{self, Field, Record, Refusal};
 use std::collections::BTreeMap;
 
 /// How often each thing was met, by name.
@@ -294,6 +294,9 @@ fn compare_pair(
     if let Err(Refusal::Layout { line, column: 3 }) = a {
         tally.add(format!("read: no catalogue number in line {line}"), 1);
     }
+    if a == Err(Refusal::Range(Field::Day)) && line1[20..].starts_with(b"366") {
+        tally.add("read: day 366 of a common year", 1);
+    }
     same_or("reading", a == b, &a, &b)?;
     let (a, b) = (one.epoch(line1, line2), other.epoch(line1, line2));
     same_or("epoch", a == b, &a, &b)?;
@@ -305,6 +308,9 @@ fn compare_pair(
     if let Ok(record) = a {
         if record.number >= 100_000 {
             tally.add("read: catalogue number with a letter", 1);
+        }
+        if record.day >= 366_0000_0000 {
+            tally.add("read: day 366 of a leap year", 1);
         }
         write_both(random, &record, libraries, tally)?;
     }
@@ -419,6 +425,10 @@ pub fn record_case(
 ) -> Result<(), Difference> {
     let mut random = case_random(seed, RECORD, index);
     let record = generate::any_record(&mut random);
+    let days = instant::days_of(record.year as i64);
+    if (366_0000_0000..367_0000_0000).contains(&record.day) && !days.contains(&(record.day as i64)) {
+        tally.add("record: day 366 of a common year", 1);
+    }
     write_both(&mut random, &record, libraries, tally).map_err(|what| Difference {
         case: format!("seed {seed}, record {index}"),
         line1: String::new(),

@@ -1,7 +1,7 @@
 //! Seeded random pairs, whole and damaged, over every branch of the model, and
 //! random sequences of requests.
 
-use crate::instant::{DAY, SPAN_LIMIT};
+use crate::instant::{self, DAY, SPAN_LIMIT};
 use crate::random::Random;
 use crate::request::{Saved, LIST_LIMIT, STRIDE};
 use crate::roster::{spelt, PAIR, PLACES, SIZE};
@@ -89,17 +89,20 @@ fn designator(random: &mut Random) -> [u8; 8] {
 
 /// A lawful record with nothing said about its orbit.
 fn anything(random: &mut Random) -> Record {
+    let year = random.between(1957, 2056);
+    let days = instant::days_of(year);
     let day = match random.below(12) {
-        0 => 1_0000_0000,
-        1 => 366_9999_9999,
-        _ => random.between(1_0000_0000, 366_9999_9999) as u64,
+        0 => days.start,
+        1 => days.end - 1,
+        2 => days.end - 1_0000_0000,
+        _ => random.between(days.start, days.end - 1),
     };
     Record {
         number: random.below(340_000) as u32,
         classification: *random.pick(b"UCS"),
         designator: designator(random),
-        year: random.between(1957, 2056) as u16,
-        day,
+        year: year as u16,
+        day: day as u64,
         ndot: random.between(-9999_9999, 9999_9999) as i32,
         nddot: exponential(random, -9, 9),
         bstar: exponential(random, -9, 9),
@@ -238,7 +241,10 @@ fn spoil(random: &mut Random, record: &mut Record) {
         }
         3 => record.designator = *random.pick(&[*b"        ", *b"00001   ", *b"99999A A", *b"00000A  "]),
         4 => record.year = *random.pick(&[short(1957), short(2056), 0, 57, 65_535]),
-        5 => record.day = *random.pick(&[long(1_0000_0000), long(367_0000_0000), 0, u64::MAX]),
+        5 => {
+            let limits = [long(1_0000_0000), long(366_0000_0000), long(367_0000_0000), 0, u64::MAX];
+            record.day = *random.pick(&limits);
+        }
         6 => record.ndot = side * signed(9999_9999),
         7 => record.nddot.mantissa = side * signed(99_999),
         8 => record.nddot.exponent = *random.pick(&[exponent(9), exponent(-9), exponent(0)]),
@@ -350,9 +356,12 @@ fn damage_once(random: &mut Random, line: &mut Vec<u8>) {
 }
 
 /// Values at and past the limits of the ranges: line, first column, text.
-const AT_LIMITS: [(usize, usize, &[u8]); 14] = [
+const AT_LIMITS: [(usize, usize, &[u8]); 17] = [
     (0, 21, b"000.99999999"),
     (0, 21, b"001.00000000"),
+    (0, 21, b"365.99999999"),
+    (0, 21, b"366.00000000"),
+    (0, 21, b"366.50000000"),
     (0, 21, b"366.99999999"),
     (0, 21, b"367.00000000"),
     (1, 9, b"180.0000"),

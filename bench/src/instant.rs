@@ -1,6 +1,8 @@
-//! Instants (document 01, "Instants"): microseconds from 1957 January 1, 0h.
+//! Instants (document 01, "Instants"): microseconds from 1957 January 1, 0h, with years that end as the
+//! calendar has it (document 02, wish 3).
 
 use crate::elementary::{fmod, PI, TWOPI};
+use std::ops::Range;
 
 /// Microseconds in a day of 86,400 s.
 pub const DAY: i64 = 86_400_000_000;
@@ -19,10 +21,16 @@ const fn days_to_year(year: i64) -> i64 {
 /// The first instant past the calendar: 2057 January 1, 0h.
 pub const END: i64 = days_to_year(END_YEAR) * DAY;
 
-/// The instant of a year and a day of the year in 10^-8 days (January 1, 0h is
-/// 1_00000000); lawful from day 1 up to, but not including, day 367.
+/// The days that a year has, in 10^-8 days; January 1, 0h is 1_00000000. A common year
+/// ends at day 365.99999999, a year that 4 divides, 2000 too, at 366.99999999.
+pub fn days_of(year: i64) -> Range<i64> {
+    let last = if year % 4 == 0 { 366 } else { 365 };
+    1_0000_0000..(last + 1) * 1_0000_0000
+}
+
+/// The instant of a year and a day of the year in 10^-8 days.
 pub fn from_epoch(year: i64, day8: i64) -> Option<i64> {
-    let lawful = (FIRST_YEAR..END_YEAR).contains(&year) && (1_0000_0000..367_0000_0000).contains(&day8);
+    let lawful = (FIRST_YEAR..END_YEAR).contains(&year) && days_of(year).contains(&day8);
     lawful.then(|| days_to_year(year) * DAY + (day8 - 1_0000_0000) * 864)
 }
 
@@ -98,6 +106,17 @@ mod tests {
         assert_eq!(from_epoch(1957, 1_0000_0000), Some(0));
         assert_eq!(from_epoch(2056, 366_9999_9999), Some(END - 864));
         assert_eq!(from_epoch(2056, 367_0000_0000), None);
+        for year in FIRST_YEAR..END_YEAR {
+            let days = days_to_year(year + 1) - days_to_year(year);
+            assert_eq!(days_of(year).end, (days + 1) * 1_0000_0000);
+            let last = from_epoch(year, days_of(year).end - 1).unwrap();
+            assert_eq!(split(last), (year, days, DAY - 864));
+            assert_eq!(from_epoch(year, days_of(year).end), None);
+        }
+        assert_eq!(
+            [1957, 1999, 2000, 2001, 2055, 2056].map(|year| days_of(year).end / 1_0000_0000),
+            [366, 366, 367, 366, 366, 367]
+        );
         assert_eq!(split(from_epoch(2000, 179_7849_5062).unwrap()), (2000, 179, 67_819_733_568));
         assert_eq!(split(END - 1), (2056, 366, DAY - 1));
         assert_eq!(split(days_to_year(1960) * DAY + 60 * DAY), (1960, 61, 0));

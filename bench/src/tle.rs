@@ -1,5 +1,5 @@
 //! Two-line element sets (document 01, "The two lines" and "One pair, printed"), with letters in
-//! catalogue numbers (document 02, wish 1).
+//! catalogue numbers and the days that a year has (document 02, wishes 1 and 3).
 
 use crate::instant;
 
@@ -277,7 +277,7 @@ fn read_line_2(line: &[u8], record: &mut Record) -> Result<u32, Refusal> {
 /// The first field out of range, in column order.
 fn broken_range(record: &Record) -> Option<Field> {
     let faults = [
-        (Field::Day, !(1_0000_0000..367_0000_0000).contains(&record.day)),
+        (Field::Day, !instant::days_of(record.year as i64).contains(&(record.day as i64))),
         (Field::Inclination, record.inclination > 180_0000),
         (Field::Node, record.node >= 360_0000),
         (Field::Perigee, record.perigee >= 360_0000),
@@ -548,5 +548,25 @@ mod tests {
         assert_eq!(read(&letter[0], &digits[1]), Err(Refusal::Numbers));
         let record = read(LINE1, LINE2).unwrap();
         assert_eq!(written(&Record { number: 340_000, ..record }, 1), Err(16));
+    }
+
+    /// Wish 3: a pair and a record with day 366 of a common year.
+    #[test]
+    fn last_days_of_years() {
+        let stamped = |epoch: &[u8; 14]| {
+            let mut line = LINE1.to_vec();
+            line[18..32].copy_from_slice(epoch);
+            line[LENGTH - 1] = b'0' + checksum(&line);
+            read(&line, LINE2)
+        };
+        let refused = Err(Refusal::Range(Field::Day));
+        for epoch in [b"01366.50000000", b"57366.00000000", b"55366.99999999", b"00367.00000000"] {
+            assert_eq!(stamped(epoch), refused);
+        }
+        for epoch in [b"00366.50000000", b"57365.99999999", b"56366.99999999"] {
+            let record = stamped(epoch).unwrap();
+            assert_eq!(instant::split(record.epoch()).0, record.year as i64);
+            assert_eq!(written(&Record { year: 2055, day: 366_0000_0000, ..record }, 1), Err(16));
+        }
     }
 }

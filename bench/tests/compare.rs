@@ -59,6 +59,8 @@ fn port_against_the_proved_library() {
         "read: catalogue number with a letter",
         "read: no catalogue number in line 1",
         "read: no catalogue number in line 2",
+        "read: day 366 of a leap year",
+        "read: day 366 of a common year",
         "row: refusal  0",
         "row: refusal  9",
         "row: refusal 11",
@@ -87,6 +89,7 @@ fn records_written() {
     for name in ["write: written", "write: refusal 16", "write: refusal 17"] {
         assert!(tally.of(name) >= 1000, "{name}: {}", tally.of(name));
     }
+    assert!(tally.of("record: day 366 of a common year") >= 50, "{tally}");
 }
 
 /// Rosters of every size, and damaged ones: thousands of calls.
