@@ -158,7 +158,8 @@ enum saddlekerf_field_number {
  * The numbers of a record: each field a whole number in its last decimal place.
  * A blank designator has the launch 0 and three blanks. The catalogue number is a plain number; in a
  * line its first place is a digit or, standing for 10 to 33, a letter A-Z without I and O (Alpha-5):
- * A0000 is 100000, Z9999 is 339999.
+ * A0000 is 100000, Z9999 is 339999. The day is one that the year has: a common year ends at day
+ * 365.99999999, a year that 4 divides, 2000 among them, at 366.99999999.
  */
 enum saddlekerf_record_field {
     SADDLEKERF_RECORD_NUMBER = 0,         /* catalogue number, 0 to 339999: from 100000 on with a letter */
@@ -166,7 +167,8 @@ enum saddlekerf_record_field {
     SADDLEKERF_RECORD_LAUNCH = 2,         /* designator: launch year and number, five digits, 58002 */
     SADDLEKERF_RECORD_PIECE = 3,          /* designator: three bytes (3, 4, 5), 'A' to 'Z', then ' ' */
     SADDLEKERF_RECORD_YEAR = 6,           /* 1957 to 2056 */
-    SADDLEKERF_RECORD_DAY = 7,            /* day of the year, 1E-8 days: 1 January, 0h, is 100000000 */
+    SADDLEKERF_RECORD_DAY = 7,            /* day of the year, 1E-8 days: 1 January, 0h, is 100000000; to */
+                                          /* 36599999999, in a year that 4 divides to 36699999999 */
     SADDLEKERF_RECORD_NDOT = 8,           /* half the first derivative of mean motion, 1E-8 rev/day^2 */
     SADDLEKERF_RECORD_NDDOT = 9,          /* a sixth of the second: mantissa, point before five digits */
     SADDLEKERF_RECORD_NDDOT_EXPONENT = 10,/* its power of ten, -9 to 9; 0 where the mantissa is 0 */

@@ -256,6 +256,27 @@ static void letters(void)
     CHECK(read_lines(LINE1, line2_with(3, "A")) == SADDLEKERF_CATALOGUE);
 }
 
+/* Day 366.5 of 2000 is read and written, that of 2001 refused. */
+static void short_year(void)
+{
+    static const char leap[] = "1 00005U 58002B   00366.50000000  .00000023  00000-0  28098-4 0  4755";
+    static const char common[] = "1 00005U 58002B   01366.50000000  .00000023  00000-0  28098-4 0  4756";
+    int64_t fields[SADDLEKERF_FIELDS];
+    uint8_t out[LENGTH];
+    uint64_t a;
+
+    CHECK(read_lines(leap, LINE2) == SADDLEKERF_ANSWERED);
+    a = saddlekerf_record(bytes(leap), LENGTH, bytes(LINE2), LENGTH, fields, SADDLEKERF_FIELDS);
+    CHECK(a == SADDLEKERF_ANSWERED);
+    CHECK(saddlekerf_write(fields, SADDLEKERF_FIELDS, 1, out, LENGTH) == (uint64_t)LENGTH << 32);
+    CHECK(memcmp(out, leap, LENGTH) == 0);
+    a = read_lines(common, LINE2);
+    CHECK(saddlekerf_refusal(a) == SADDLEKERF_RANGE);
+    CHECK(saddlekerf_field(a) == SADDLEKERF_FIELD_DAY);
+    fields[SADDLEKERF_RECORD_YEAR] = 2001;
+    CHECK(saddlekerf_write(fields, SADDLEKERF_FIELDS, 1, out, LENGTH) == SADDLEKERF_RECORD);
+}
+
 /* The example spelt in another way than ours. */
 static const char OTHER1[] = "1 00005U 58002B   00179.78495062 +.00000023 +00000+0 +28098-4 0 04752";
 static const char OTHER2[] = "2 00005 034.2682 348.7242 1859667 331.7664 019.3264 10.82419157413667";
@@ -660,6 +681,7 @@ int main(int argc, char **argv)
     read_record();
     write_record();
     letters();
+    short_year();
     keep_roster();
     fill_roster();
     count_strides();

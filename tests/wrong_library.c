@@ -53,6 +53,9 @@ uint64_t __wrap_saddlekerf_version(void)
 uint64_t __wrap_saddlekerf_read(PAIR)
 {
     const uint64_t a = __real_saddlekerf_read(LENT_PAIR);
+    if (saddlekerf_refusal(a) == SADDLEKERF_RANGE && saddlekerf_field(a) == SADDLEKERF_FIELD_DAY &&
+        memcmp(line1 + 20, "366", 3) == 0 && wrong("read-short-year"))
+        return SADDLEKERF_ANSWERED; /* day 366 of a common year */
     /* a value where the header has none */
     return a == SADDLEKERF_CATALOGUE && wrong("read-value") ? a | 1 << 8 : a;
 }
@@ -82,6 +85,12 @@ static void exchange(int64_t *fields)
     fields[SADDLEKERF_RECORD_ANOMALY] = kept;
 }
 
+static void short_year(int64_t *fields)
+{
+    if (fields[SADDLEKERF_RECORD_YEAR] % 4 != 0 && fields[SADDLEKERF_RECORD_DAY] / 100000000 == 366)
+        fields[SADDLEKERF_RECORD_YEAR] = 2000;
+}
+
 uint64_t __wrap_saddlekerf_record(PAIR, int64_t *fields, size_t fields_length)
 {
     const uint64_t a = __real_saddlekerf_record(LENT_PAIR, fields, fields_length);
@@ -101,10 +110,13 @@ uint64_t __wrap_saddlekerf_write(const int64_t *fields, size_t fields_length, ui
 {
     int64_t copy[SADDLEKERF_FIELDS];
     uint64_t a;
-    if (fields_length >= SADDLEKERF_FIELDS && (wrong("record-exchanged") || wrong("write-unjudged"))) {
+    if (fields_length >= SADDLEKERF_FIELDS &&
+        (wrong("record-exchanged") || wrong("write-unjudged") || wrong("write-short-year"))) {
         memcpy(copy, fields, sizeof copy);
         if (wrong("record-exchanged"))
             exchange(copy);
+        else if (wrong("write-short-year")) /* day 366 of a common year written, as that of 2000 */
+            short_year(copy);
         else
             copy[SADDLEKERF_RECORD_NODE] %= 3600000; /* a field out of its range written all the same */
         fields = copy;

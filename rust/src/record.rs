@@ -31,7 +31,10 @@ pub struct Exponential {
 /// assert_eq!((&line1[2..8], &line2[2..7]), (b"Z9999U".as_slice(), b"Z9999".as_slice()));
 /// assert_eq!(Record::read(&line1, &line2)?.number, 339_999);
 ///
-/// record.inclination = 180_0001;
+/// // 2000 has a day 366, 2001 has none.
+/// record.day = 366_5000_0000;
+/// assert!(record.write().is_ok());
+/// record.year = 2001;
 /// assert_eq!(record.write(), Err(Refusal::Record));
 /// # Ok(())
 /// # }
@@ -49,7 +52,8 @@ pub struct Record {
     pub piece: [u8; 3],
     /// 1957 to 2056.
     pub year: u16,
-    /// Day of the year in 10⁻⁸ days: 1 0000 0000 is January 1, 0h; below 367 0000 0000.
+    /// Day of the year in 10⁻⁸ days: 1 0000 0000 is January 1, 0h. A common year ends at 365 9999 9999,
+    /// a year that 4 divides, 2000 among them, at 366 9999 9999.
     pub day: u64,
     /// Half the first derivative of mean motion, in 10⁻⁸ revolutions per day², eight digits.
     pub ndot: i32,

@@ -12,7 +12,8 @@ pub enum Line {
 /// A field that has a range, in column order.
 #[derive(Clone, Copy, Debug, PartialEq, Eq, Hash)]
 pub enum Field {
-    /// Day of the year, from 1 up to, but not including, 367.
+    /// Day of the year, from 1 to the end of the year's last day: 365.99999999, or in a year that 4
+    /// divides 366.99999999.
     Day = 1,
     /// At most 180.0000 degrees.
     Inclination = 2,

@@ -126,6 +126,30 @@ fn ranges() {
     }
 }
 
+/// Wish 3 of document 02: a common year ends at day 365.99999999, and 2000 is a leap year.
+#[test]
+fn last_days_of_years() {
+    let stamped = |year: u32, day: &str| with(LINE1, 19, format!("{:02}{day}", year % 100).as_bytes());
+    for year in 1957..=2056 {
+        let (last, next) = if year % 4 == 0 { (366, 367) } else { (365, 366) };
+        let line1 = stamped(year, &format!("{last}.99999999"));
+        assert_eq!(read(&line1, LINE2), Ok(()), "{year}");
+        assert!(printed(&line1, LINE2).contains(&format!("\nepoch {year} {last} 86399999136\n")), "{year}");
+        if year < 2056 {
+            let january = epoch(&stamped(year + 1, "001.00000000"), LINE2).unwrap();
+            assert_eq!(epoch(&line1, LINE2).unwrap().0 + 864, january.0, "{year}");
+        }
+        for fraction in ["00000000", "50000000", "99999999"] {
+            let line1 = stamped(year, &format!("{next}.{fraction}"));
+            let refusal = Refusal::Range { field: Field::Day };
+            assert_eq!(read(&line1, LINE2), Err(refusal), "{year}");
+            assert_eq!(epoch(&line1, LINE2), Err(refusal), "{year}");
+            assert_eq!(printed(&line1, LINE2), "refused 6\n", "{year}");
+            assert_eq!(Satellite::open(&line1, LINE2).unwrap_err(), refusal, "{year}");
+        }
+    }
+}
+
 #[test]
 fn opening_refused() {
     // At 180 degrees 002's xlcof is 0/0.

@@ -150,6 +150,21 @@ fn mend(mut line: [u8; 69]) -> [u8; 69] {
     line
 }
 
+/// Wish 3 of document 02: records on the last day of every year, read and written again.
+#[test]
+fn last_days_of_years() {
+    for year in 1957..=2056 {
+        let last = if year % 4 == 0 { 366 } else { 365 };
+        for day in [last * 1_0000_0000, last * 1_0000_0000 + 9999_9999] {
+            let record = Record { year, day, ..EXAMPLE };
+            let [line1, line2] = record.write().unwrap();
+            assert_eq!(Record::read(&line1, &line2), Ok(record));
+        }
+        let record = Record { year, day: (last + 1) * 1_0000_0000, ..EXAMPLE };
+        assert_eq!(record.write(), Err(Refusal::Record), "{year}");
+    }
+}
+
 /// Every field a little outside: refusal 16, for both lines, and nothing written.
 #[test]
 fn records_outside_layout_or_ranges() {
@@ -171,6 +186,9 @@ fn records_outside_layout_or_ranges() {
         Record { day: 9999_9999, ..e },
         Record { day: 367_0000_0000, ..e },
         Record { day: u64::MAX, ..e },
+        Record { year: 1957, day: 366_0000_0000, ..e },
+        Record { year: 2001, day: 366_5000_0000, ..e },
+        Record { year: 2055, day: 366_9999_9999, ..e },
         Record { ndot: 1_0000_0000, ..e },
         Record { ndot: -1_0000_0000, ..e },
         Record { nddot: exponential(100_000, 0), ..e },
