@@ -1,7 +1,7 @@
 #!/usr/bin/env python3
 """Calls on a roster, and all its bytes after each.
 
-A roster of its own, written from document 02 (wish 2) and from nothing else,
+A roster of its own, written from document 02 (wishes 2 and 3) and from nothing else,
 over the reader of tle_pairs.py and the spelling of written_lines.py.
 
   roster_calls.py --write INPUT EXPECTED
@@ -166,7 +166,7 @@ def one_number(steps):
     steps.lodge(*pair(5, day="179.78495061"))
     steps.lodge(*pair(5, day="179.78495063", bstar="-00000+0"))
     steps.lodge(*EXAMPLE)
-    steps.lodge(*pair(5, year="99", day="366.99999999"))
+    steps.lodge(*pair(5, year="99", day="365.99999999"))
     steps.lodge(*pair(5, year="01", day="001.00000000"))
     for number in (4, 6, 0, 99999, 100000, 5 + 2 ** 32, 2 ** 64 - 1):
         steps.withdraw(number)
@@ -176,14 +176,14 @@ def one_number(steps):
 
 
 def instants(steps):
-    """Epochs are compared as instants: day 366 of a common year is January 1 of the next."""
+    """Epochs are compared as instants: the last of a year is older than January 1 of the next."""
     steps.length(SIZE)
-    steps.lodge(*pair(7, year="57", day="366.00000000"))
+    steps.lodge(*pair(7, year="57", day="365.99999999"))
     steps.lodge(*pair(7, year="58", day="001.00000000"))
-    steps.lodge(*pair(7, year="57", day="366.00000000", type="1"))
+    steps.lodge(*pair(7, year="58", day="001.00000000", type="1"))
     steps.lodge(*pair(7, year="57", day="365.99999999"))
     steps.lodge(*pair(7, year="99", day="100.00000000"))
-    steps.lodge(*pair(7, year="00", day="100.00000000"))
+    steps.lodge(*pair(7, year="00", day="366.99999999"))
     steps.lodge(*pair(7, year="56", day="366.99999999"))
     steps.lodge(*pair(7, year="57", day="001.00000000"))
 
@@ -207,7 +207,7 @@ def refusals_of_reading(steps):
         (EXAMPLE[0][:68], EXAMPLE[1]), (EXAMPLE[0], EXAMPLE[1] + b" "), (b"", b""),
         (EXAMPLE[1], EXAMPLE[0]), (EXAMPLE[0], put(EXAMPLE[1], 12, ord(","))),
         (EXAMPLE[0], put(EXAMPLE[1], 69, ord("0"))), (EXAMPLE[0], line2(number="00006")),
-        pair(5, day="000.99999999"), pair(5, inclination="180.0001"), pair(5, node="360.0000"),
+        pair(5, day="000.99999999"), pair(5, year="01", day="366.50000000"), pair(5, inclination="180.0001"), pair(5, node="360.0000"),
         pair(5, perigee="360.0000"), pair(5, anomaly="360.0000"), pair(5, motion=" 0.00000000"),
     ]
     for buffer in (packed([spelt(*EXAMPLE)]), b"?" + bytes(SIZE - 1), bytes(SIZE - 1)):
@@ -243,6 +243,11 @@ def damaged(steps):
     def with_bytes(at, some):
         return whole[:at] + some + whole[at + len(some):]
 
+    # Stored before wish 3: day 366 of a common year. 2004 and 2000 are leap years.
+    late = [spelt(*pair(20, year=year, day="366.50000000")) for year in ("01", "06", "55")]
+    for year in ("00", "04"):
+        assert held(packed([three[0], spelt(*pair(20, year=year, day="366.50000000")), three[2]]))
+
     mended = summed(three[1][:8] + b"C" + three[1][9:68])
     buffers = [
         b"", b"\0", whole[:-1], whole + b"\0", whole[:3 * PLACE], bytes(SIZE - PLACE), bytes(SIZE + PLACE),
@@ -258,6 +263,7 @@ def damaged(steps):
         (OTHER[0] + EXAMPLE[1]).ljust(SIZE, b"\0"),
         with_bytes(PLACE + 68, b"?"), with_bytes(PLACE, mended), with_bytes(PLACE + 69, three[0][69:]),
         whole[69:] + bytes(69), three[0][:69].ljust(SIZE, b"\0"),
+        *[packed([three[0], pair, three[2]]) for pair in late], packed([late[0]]),
     ]
     for buffer in buffers:
         assert held(buffer) is None, buffer

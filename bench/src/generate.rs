@@ -457,7 +457,8 @@ fn lodging(random: &mut Random, records: &[Record]) -> Call {
         record.number = held.number;
         if !random.one_in(4) {
             let day = held.day as i64 + random.between(-1, 1);
-            (record.year, record.day) = (held.year, day.clamp(1_0000_0000, 366_9999_9999) as u64);
+            let days = instant::days_of(held.year as i64);
+            (record.year, record.day) = (held.year, day.clamp(days.start, days.end - 1) as u64);
         }
     }
     let written = |which| tle::written(&record, which).expect("a lawful record");

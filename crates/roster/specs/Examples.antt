@@ -1,11 +1,20 @@
 -- Worked examples, proved by computation.
 use Prim.Native.Nat.{ℕ}
 use mathlib.Core.Path.{_≡_, refl}
-use mathlib.Core.List.{[], _∷_}
-use Rattle.instant.specs.Calendar.{daysIn, daysBefore, epochMicros}
-use Rattle.tle.specs.Examples.{vanguard}
+use mathlib.Core.List.{[], _∷_, _++_}
+use Rattle.instant.specs.Calendar.{daysIn, lastDay, dayInRange, daysBefore, epochMicros}
+use Rattle.text.specs.Output.{bytes}
+use Rattle.columns.specs.Layout.{agreed}
+use Rattle.columns.specs.Sum.{digitOf, sum}
+use Rattle.columns.specs.FirstPlace.{position, firstOf}
+use Rattle.tle.specs.Number.{valueOn, signed, minus}
+use Rattle.tle.specs.Catalogue.{catalogueOf}
+use Rattle.tle.specs.Read.{verdictOf, numberAt, pairOf, classOf, designatorAt, yearOf, ndotAt, scaledAt, dayAt, motionAt, degreesAt, fieldsOf, formOf, rangesOf, readOf}
+use Rattle.tle.specs.Examples.{vanguard, line2}
 use Rattle.tle.specs.declared.Record.{Record}
 use Rattle.roster.specs.Records.{lookup, instantOf, lodged, withdrawn}
+use Rattle.roster.specs.Roster.{placeOf}
+use Rattle.roster.specs.declared.places.Place.the-variants as place
 use Rattle.roster.specs.Calls.{ruling}
 use Rattle.roster.specs.declared.Lodging.the-variants as lodging
 
@@ -58,3 +67,8 @@ equal = refl
 new-year : ruling (at 5 1999 36599999999) (at 5 2000 100000000 ∷ []) ≡ lodging.Older
 unfolding lookup instantOf epochMicros daysBefore daysIn
 new-year = refl
+
+-- document 02, wish 3: a place that holds day 366.5 of 2001 is no pair, whoever wrote it
+short-year : placeOf (bytes "1 00005U 58002B   01366.50000000  .00000023  00000-0  28098-4 0  4756" ++ line2) ≡ place.Damaged
+unfolding placeOf readOf formOf pairOf verdictOf agreed sum fieldsOf rangesOf dayInRange lastDay daysIn numberAt catalogueOf firstOf position classOf designatorAt yearOf dayAt ndotAt scaledAt degreesAt motionAt valueOn digitOf signed minus
+short-year = refl
