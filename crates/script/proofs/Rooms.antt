@@ -1,47 +1,23 @@
--- Rows put after those that a room holds already.
+-- A list's rows put after those that the rooms hold already.
 use mathlib.Core.Path.{_≡_, refl, sym, ap, _∙_}
-use mathlib.Core.List.{List, [], _∷_, _++_, append-assoc, append-nil}
-use Prim.Native.Nat.{ℕ, zero, suc, _+_, _-_, _*_, _/_, _≤_, _<_}
-use native.Mathlib.Numerals.{add-one}
+use mathlib.Core.List.{List, [], _∷_, _++_, append-nil}
+use Prim.Native.Nat.{ℕ, zero, suc, _+_, _-_, _*_, _≤_}
 use native.Mathlib.Omega.{arith}
-use lib.ListN.{length, take, drop, set, getD, take-append-drop, length-drop}
-use lib.Seq.{set-split, sets, sets-eq, drop-drop, drop-cons, drop-length, take-all, take-suc, take-length}
-use lib.Dec.{eqb, leb, ltb}
-use mathlib.Core.Bool.{Bool, true, false, not, cond, _&&_}
-use borrow.Author.Tests.{le-leb, lt-leb, lt-ltb, ltb-true, ltb-false, ne-eqb, eq-eqb, eqb-true}
-use borrow.Rule.Slice.PartMut.{midOf, postOf, putMid, post-is}
+use lib.ListN.{length, take, drop, length-drop}
+use lib.Seq.{drop-length, take-all}
+use lib.Dec.{eqb, ltb}
+use mathlib.Core.Bool.{Bool, true, false, cond}
+use borrow.Author.Tests.{le-ltb, ltb-false, ne-eqb, eq-eqb, eqb-true}
+use borrow.Rule.Slice.PartMut.{midOf, putMid, post-is}
 use lib.IntN.{ℤ}
 use lib.Ieee.{Float}
-use Rattle.sgp4.specs.declared.Row.{Row}
 use Rattle.opening.specs.declared.opening.Satellite.{Satellite}
-use Rattle.requests.specs.declared.Answered.{Answered}
 use Rattle.requests.specs.declared.ListAnswer.{ListAnswer}
 use Rattle.requests.specs.Request.{answered}
-use Rattle.requests.specs.Lists.{stateOf, statesOf, refusalsOf, roundsOf, rowsFrom, listRefusal, listTimes, listed, ListPost, over}
+use Rattle.requests.specs.Lists.{statesOf, refusalsOf, roundsOf, rowsFrom, stridesFrom, satelliteFrom, listRefusal, listTimes, listed, ListPost, over}
 use Rattle.sequences.specs.Demand3.{One, Many, rowTimes}
 use Rattle.script_room.specs.Room.{due}
 use Rattle.script.specs.Script.{requestOf, Step}
-
-module _ {A : Type 0} where
-  pub set-part : (l : List A) (n : ℕ) (v : A) → n < length l → set l n v ≡ take n l ++ over (v ∷ []) (drop n l)
-  set-part l n v h = set-split l n v h ∙ ap (λ z. take n l ++ (v ∷ z)) (sym (drop-drop 1 n l ∙ ap (λ k. drop k l) (add-one n)))
-
-  pub sets-part : (vs l : List A) (n : ℕ) → n + length vs ≤ length l → sets l n vs ≡ take n l ++ over vs (drop n l)
-  sets-part vs l n h =
-      sets-eq vs l n h ∙ append-assoc (take n l) vs (drop (n + length vs) l) ∙ ap (λ z. take n l ++ (vs ++ z)) (sym (drop-drop (length vs) n l))
-
-pub one-step : (s : Satellite) (t : ℤ) (rows : ℕ) (a : List ℕ) (b : List Float) (c : List ℕ) (r : Answered) (a′ : List ℕ) (b′ : List Float) (c′ : List ℕ)
-    → r ≡ answered s t → rows < length a → 6 * rows + 6 ≤ length b → rows < length c
-    → a′ ≡ set a rows (r .row .refusal) → b′ ≡ sets b (6 * rows) (stateOf (r .row)) → c′ ≡ set c rows (r .row .rounds)
-    → Step s (One t) rows a b c (r .satellite) (r .strides .0) 1 a′ b′ c′
-one-step s t rows a b c r a′ b′ c′ e ha hb hc ea eb ec = record {
-  satellite = ap (λ z. z .satellite) e;
-  strides = ap (λ z. z .strides .0) e;
-  added = refl;
-  refusals = ea ∙ set-part a rows (r .row .refusal) ha ∙ ap (λ z. take rows a ++ over (z .row .refusal ∷ []) (drop rows a)) e;
-  states = eb ∙ sets-part (stateOf (r .row)) b (6 * rows) hb ∙ ap (λ z. take (6 * rows) b ++ over (stateOf (z .row)) (drop (6 * rows) b)) e;
-  rounds = ec ∙ set-part c rows (r .row .rounds) hc ∙ ap (λ z. take rows c ++ over (z .row .rounds ∷ []) (drop rows c)) e;
-}
 
 -- ── a list, in what is left of the rooms ──
 
@@ -113,3 +89,27 @@ pub rows-bound : (n : ℕ) (ts : List ℤ) (i j k : ℕ) → due n ≤ i → 6 *
     → (length (rowTimes (requestOf n ts i j k)) ≤ i) × (6 * length (rowTimes (requestOf n ts i j k)) ≤ j) × (length (rowTimes (requestOf n ts i j k)) ≤ k)
 rows-bound zero ts i j k a b c = (a, b, c)
 rows-bound (suc n) ts i j k a b c = bound-by (eqb (listRefusal (length (take n ts)) i j k) 0) (take n ts) i j k refl
+
+-- ── one time is a list of one ──
+
+one-room : (i j k : ℕ) → 1 ≤ i → 6 ≤ j → 1 ≤ k → listRefusal 1 i j k ≡ 0
+unfolding listRefusal
+one-room i j k hi hj hk = rw (le-ltb i 1 hi, le-ltb j 6 hj, le-ltb k 1 hk)
+
+plus-none : (n : ℕ) → n + 0 ≡ n
+plus-none n = omega arith
+
+-- put as a list with room for it, a time gives the same row, strides and satellite
+pub one-alike : (s : Satellite) (t : ℤ) (i j k : ℕ) → 1 ≤ i → 6 ≤ j → 1 ≤ k
+    → {rows : ℕ} {a : List ℕ} {b : List Float} {c : List ℕ} {s′ : Satellite} {n m : ℕ} {a′ : List ℕ} {b′ : List Float} {c′ : List ℕ}
+    → Step s (Many (t ∷ []) i j k) rows a b c s′ n m a′ b′ c′ → Step s (One t) rows a b c s′ n m a′ b′ c′
+one-alike s t i j k hi hj hk {rows} {a} {b} {c} p =
+    let e : listTimes (t ∷ []) i j k ≡ t ∷ [] = ap (λ z. cond z (t ∷ []) []) (eq-eqb (listRefusal 1 i j k) 0 (one-room i j k hi hj hk)) in
+    record {
+      satellite = p .satellite ∙ ap (satelliteFrom s) e;
+      strides = p .strides ∙ ap (stridesFrom s) e ∙ plus-none (answered s t .strides .0);
+      added = p .added ∙ ap length e;
+      refusals = p .refusals ∙ ap (λ l. take rows a ++ over (refusalsOf (rowsFrom s l)) (drop rows a)) e;
+      states = p .states ∙ ap (λ l. take (6 * rows) b ++ over (statesOf (rowsFrom s l)) (drop (6 * rows) b)) e;
+      rounds = p .rounds ∙ ap (λ l. take rows c ++ over (roundsOf (rowsFrom s l)) (drop rows c)) e;
+    }

@@ -18,24 +18,29 @@ use Rattle.requests.proofs.Filling.{length-rows, length-refusals, length-rounds
 use Rattle.script_room.specs.Room.{taken, needed, roomy, due}
 use Rattle.script.specs.Script.{requestOf, script, rowsOf, Step, Left}
 use Rattle.script_room.proofs.Room.{next-roomy}
-use Rattle.script.proofs.Rooms.{rows-bound}
+use Rattle.script.proofs.Rooms.{rows-bound, one-alike}
 
 -- ── the next request ──
 
-pub step-is : {s : Satellite} {r r′ : Request} {rows : ℕ} {a : List ℕ} {b : List Float} {c : List ℕ} {s′ : Satellite} {n k : ℕ} {a′ : List ℕ} {b′ : List Float} {c′ : List ℕ}
+step-is : {s : Satellite} {r r′ : Request} {rows : ℕ} {a : List ℕ} {b : List Float} {c : List ℕ} {s′ : Satellite} {n k : ℕ} {a′ : List ℕ} {b′ : List Float} {c′ : List ℕ}
     → r ≡ r′ → Step s r rows a b c s′ n k a′ b′ c′ → Step s r′ rows a b c s′ n k a′ b′ c′
 step-is {s} {r} {r′} {rows} {a} {b} {c} {s′} {n} {k} {a′} {b′} {c′} e h = subst (λ z. Step s z rows a b c s′ n k a′ b′ c′) e h
 
-pub one-of : (n at : ℕ) (ts : List ℤ) (d u : ℤ) (i j k : ℕ) → n ≡ 0 → at < length ts → u ≡ getD ts at d → One u ≡ requestOf n (drop at ts) i j k
-one-of n at ts d u i j k e h hu =
-    ap One (hu ∙ sym (ap (λ l. getD l 0 (pos 0)) (drop-cons ts at d h))) ∙ sym (ap (λ m. requestOf m (drop at ts) i j k) e)
+first : (l : List ℤ) → 1 ≤ length l → take 1 l ≡ getD l 0 (pos 0) ∷ []
+first [] h = absurd (omega arith)
+first (t ∷ l) h = refl
 
-pub many-of : (n m : ℕ) (ts : List ℤ) (at i j k : ℕ) → (n ≡ 0 → ⊥) → m ≡ n - 1 → Many (take m (drop at ts)) i j k ≡ requestOf n (drop at ts) i j k
-many-of zero m ts at i j k h e = absurd (h refl)
-  where
-    absurd : {B : Type 0} → ⊥ → B
-    absurd = elim [ ]
-many-of (suc n) m ts at i j k h e = let w : m ≡ n = omega arith in ap (λ z. Many (take z (drop at ts)) i j k) w
+-- its times put as one list, in rooms that have what is due
+asked-of : (n m w at : ℕ) (ts : List ℤ) (i j k : ℕ) → m ≡ taken n → w ≡ m → at + m ≤ length ts → due n ≤ i → 6 * due n ≤ j → due n ≤ k
+    → {s : Satellite} {rows : ℕ} {a : List ℕ} {b : List Float} {c : List ℕ} {s′ : Satellite} {p q : ℕ} {a′ : List ℕ} {b′ : List Float} {c′ : List ℕ}
+    → Step s (Many (take w (drop at ts)) i j k) rows a b c s′ p q a′ b′ c′ → Step s (requestOf n (drop at ts) i j k) rows a b c s′ p q a′ b′ c′
+unfolding taken
+asked-of zero m w at ts i j k hm hw h hi hj hk {s} r =
+    let e : w ≡ 1 = hw ∙ hm in
+    let l : 1 ≤ length (drop at ts) = omega (arith, length-drop at ts) in
+    one-alike s (getD (drop at ts) 0 (pos 0)) i j k hi hj hk
+    (step-is (ap (λ z. Many (take z (drop at ts)) i j k) e ∙ ap (λ z. Many z i j k) (first (drop at ts) l)) r)
+asked-of (suc n) m w at ts i j k hm hw h hi hj hk r = step-is (ap (λ z. Many (take z (drop at ts)) i j k) (hw ∙ hm)) r
 
 -- ── rows after rows ──
 
@@ -193,9 +198,39 @@ next-room {s₀} {ns} {ts} {a₀} {b₀} {c₀} {d₀} {a} {b} {c} {d} {s} {at} 
       ),
     )
 
+pub times-fit : {s₀ : Satellite} {ns : List ℕ} {ts : List ℤ} {a₀ : List ℕ} {b₀ : List Float} {c₀ : List ℕ} {d₀ : List ℕ} {a : List ℕ} {b : List Float} {c : List ℕ} {d : List ℕ} {s : Satellite} {at rows j : ℕ} (z m : ℕ)
+    → Running s₀ ns ts a₀ b₀ c₀ d₀ a b c d s at rows j → j < length ns → m ≡ taken (getD ns j z) → at + m ≤ length ts
+times-fit {ts = ts} {at = at} z m f h hm = subst (λ i. at + i ≤ length ts) (sym hm) (next-room z f h .0)
+
+-- what is written already has room
+pub written-fits : {s₀ : Satellite} {ns : List ℕ} {ts : List ℤ} {a₀ : List ℕ} {b₀ : List Float} {c₀ : List ℕ} {d₀ : List ℕ} {a : List ℕ} {b : List Float} {c : List ℕ} {d : List ℕ} {s : Satellite} {at rows j : ℕ}
+    → Running s₀ ns ts a₀ b₀ c₀ d₀ a b c d s at rows j → (rows ≤ length a) × ((6 * rows ≤ length b) × (rows ≤ length c))
+written-fits {rows = rows} f =
+    (subst (λ i. rows ≤ i) (sym (f .lenA)) (f .fitA), (subst (λ i. 6 * rows ≤ i) (sym (f .lenB)) (f .fitB), subst (λ i. rows ≤ i) (sym (f .lenC)) (f .fitC)))
+
 pub next-rows : (n : ℕ) (ts : List ℤ) (i j k : ℕ) {s : Satellite} {rows : ℕ} {a : List ℕ} {b : List Float} {c : List ℕ} {s′ : Satellite} {q m : ℕ} {a′ : List ℕ} {b′ : List Float} {c′ : List ℕ}
     → Step s (requestOf n ts i j k) rows a b c s′ q m a′ b′ c′ → m ≤ taken n
 next-rows n ts i j k p = subst (λ z. z ≤ taken n) (sym (p .added)) (few-rows n ts i j k)
+
+due-left : (rows d l m : ℕ) → rows + d ≤ m → m ≡ l → d ≤ l - rows
+due-left rows d l m h e = omega arith
+
+due-left-six : (rows d l m : ℕ) → 6 * (rows + d) ≤ m → m ≡ l → 6 * d ≤ l - 6 * rows
+due-left-six rows d l m h e = omega arith
+
+-- what the request does, from what its times do as a list
+pub next-step : {s₀ : Satellite} {ns : List ℕ} {ts : List ℤ} {a₀ : List ℕ} {b₀ : List Float} {c₀ : List ℕ} {d₀ : List ℕ} {a : List ℕ} {b : List Float} {c : List ℕ} {d : List ℕ} {s : Satellite} {at rows j : ℕ} (z m : ℕ)
+    → Running s₀ ns ts a₀ b₀ c₀ d₀ a b c d s at rows j → j < length ns → m ≡ taken (getD ns j z)
+    → {s′ : Satellite} {n k : ℕ} {a′ : List ℕ} {b′ : List Float} {c′ : List ℕ}
+    → Step s (Many (take (at + m - at) (drop at ts)) (length a - rows) (length b - 6 * rows) (length c - rows)) rows a b c s′ n k a′ b′ c′
+    → Step s (requestOf (getD ns j z) (drop at ts) (length a - rows) (length b - 6 * rows) (length c - rows)) rows a b c s′ n k a′ b′ c′
+next-step {s₀} {ns} {ts} {a₀} {b₀} {c₀} {d₀} {a} {b} {c} {d} {s} {at} {rows} {j} z m f h hm r =
+    let g = getD ns j z in
+    let room = next-room z f h in
+    let e : at + m - at ≡ m = omega arith in
+    asked-of g m (at + m - at) at ts (length a - rows) (length b - 6 * rows) (length c - rows) hm e (times-fit z m f h hm)
+    (due-left rows (due g) (length a) (length a) (room .1 .0) refl) (due-left-six rows (due g) (length b) (length b) (room .1 .1 .0) refl)
+    (due-left rows (due g) (length c) (length c) (room .1 .1 .1) refl) r
 
 module _ {A : Type 0} where
   length-part : (xs l : List A) (n : ℕ) → n + length xs ≤ length l → length (take n l ++ over xs (drop n l)) ≡ length l
@@ -212,12 +247,6 @@ rows-fit-six rows k l m x h e w q = omega arith
 
 six-more : (rows k l : ℕ) → 6 * rows ≤ l → 6 * k ≤ l - 6 * rows → 6 * (rows + k) ≤ l
 six-more rows k l h e = omega arith
-
-due-left : (rows d l m : ℕ) → rows + d ≤ m → m ≡ l → d ≤ l - rows
-due-left rows d l m h e = omega arith
-
-due-left-six : (rows d l m : ℕ) → 6 * (rows + d) ≤ m → m ≡ l → 6 * d ≤ l - 6 * rows
-due-left-six rows d l m h e = omega arith
 
 -- what the script is from its next request on
 script-next : (s : Satellite) (ns : List ℕ) (ts : List ℤ) (i j k : ℕ) (n : ℕ) → run s (script (n ∷ ns) ts i j k)

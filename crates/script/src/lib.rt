@@ -1,24 +1,18 @@
 // A whole script of requests, run from two lines: demand 3 of running code.
 ghost use mathlib.Core.Path.{_≡_};
-ghost use Prim.Native.Nat.{_+_, _-_, _*_, _/_, _<_, _≤_};
+ghost use Prim.Native.Nat.{_-_, _*_, _/_, _≤_};
 ghost use mathlib.Core.Bool.{true};
-ghost use mathlib.Core.List.{_++_};
-ghost use lib.ListN.{length, take, drop, set};
-ghost use lib.Seq.{sets};
-ghost use Rattle.requests.specs.Lists as L;
+ghost use lib.ListN.{length};
 ghost use Rattle.sequences.specs.Demand3 as D;
 ghost use Rattle.script_room.specs.Room as R;
 ghost use Rattle.script.specs.Script as S;
-use instant::Microseconds;
 use instant::Strides;
 use opening::opening::PairOpening;
 use opening::opening::Satellite;
 use opening::opening::open_pair;
-use requests::request;
 use requests::request_list;
 use script_room::has_room;
 use script_room::taken;
-use sgp4::Row;
 
 // What became of a script: run; not begun, for want of times or of room (17); or not begun, since the
 // lines are refused by reading (1 to 6) or by opening (7 and 8).
@@ -49,54 +43,9 @@ struct Stepped {
     rows: usize,
 }
 
-// A row at an index of the three rooms.
-fn put_row(row: Row, at: usize, refusals: &mut [u8], states: &mut [f64], rounds: &mut [u8])
-    requires { ⌜ at < length (now refusals) ⌝ }
-    requires { ⌜ 6 * at + 6 ≤ length (now states) ⌝ }
-    requires { ⌜ at < length (now rounds) ⌝ }
-    ensures { λ _. ⌜ now (refusals .exit) ≡ set (now (refusals .entry)) at (row .refusal) ⌝ }
-    ensures { λ _. ⌜ now (states .exit) ≡ sets (now (states .entry)) (6 * at) (L.stateOf row) ⌝ }
-    ensures { λ _. ⌜ now (rounds .exit) ≡ set (now (rounds .entry)) at (row .rounds) ⌝ }
-{
-    let k = 6 * at;
-    refusals[at] = row.refusal;
-    rounds[at] = row.rounds;
-    states[k] = row.x;
-    states[k + 1] = row.y;
-    states[k + 2] = row.z;
-    states[k + 3] = row.vx;
-    states[k + 4] = row.vy;
-    states[k + 5] = row.vz;
-}
-
-// One time: its row goes after the `rows` that are written.
-fn one(
-    s: Satellite,
-    t: i64,
-    rows: usize,
-    refusals: &mut [u8],
-    states: &mut [f64],
-    rounds: &mut [u8],
-) -> Stepped
-    requires { ⌜ rows < length (now refusals) ⌝ }
-    requires { ⌜ 6 * rows + 6 ≤ length (now states) ⌝ }
-    requires { ⌜ rows < length (now rounds) ⌝ }
-    ensures { λ r. ⌜ S.Step s (D.One t) rows (now (refusals .entry)) (now (states .entry)) (now (rounds .entry)) (r .satellite) (r .strides .0) (r .rows) (now (refusals .exit)) (now (states .exit)) (now (rounds .exit)) ⌝ }
-{
-    let a = request(s, Microseconds(t));
-    let row = a.row;
-    put_row(row, rows, refusals, states, rounds);
-    let satellite = a.satellite;
-    let strides = a.strides;
-    Stepped {
-        satellite,
-        strides,
-        rows: 1,
-    }
-}
-
-// A list of times: it is lent what is left of the rooms.
-fn many(
+// The next request: its times are put as one list, which is lent what is left of the rooms. One time is
+// a list of one (`one-alike` of proofs/Rooms).
+fn step(
     s: Satellite,
     times: &[i64],
     rows: usize,
@@ -134,31 +83,6 @@ fn many(
     }
 }
 
-// The next request of a script: 0 is one time, n + 1 a list of n. `at` times are taken.
-fn step(
-    s: Satellite,
-    n: usize,
-    at: usize,
-    rows: usize,
-    times: &[i64],
-    refusals: &mut [u8],
-    states: &mut [f64],
-    rounds: &mut [u8],
-) -> Stepped
-    requires { ⌜ at + R.taken n ≤ length (now times) ⌝ }
-    requires { ⌜ rows + R.due n ≤ length (now refusals) ⌝ }
-    requires { ⌜ 6 * (rows + R.due n) ≤ length (now states) ⌝ }
-    requires { ⌜ rows + R.due n ≤ length (now rounds) ⌝ }
-    ensures { λ r. ⌜ S.Step s (S.requestOf n (drop at (now (times .entry))) (length (now (refusals .entry)) - rows) (length (now (states .entry)) - 6 * rows) (length (now (rounds .entry)) - rows)) rows (now (refusals .entry)) (now (states .entry)) (now (rounds .entry)) (r .satellite) (r .strides .0) (r .rows) (now (refusals .exit)) (now (states .exit)) (now (rounds .exit)) ⌝ }
-{
-    if n == 0 {
-        let t = times[at];
-        return one(s, t, rows, refusals, states, rounds);
-    }
-    let end = at + (n - 1);
-    many(s, &times[at..end], rows, refusals, states, rounds)
-}
-
 // Every request of a script, one after the other.
 fn run_all(
     first: Satellite,
@@ -183,11 +107,12 @@ fn run_all(
     while j < lengths.len() {
         let n = lengths[j];
         let m = taken(n);
-        let a = step(s, n, at, rows, times, refusals, states, rounds);
+        let end = at + m;
+        let a = step(s, &times[at..end], rows, refusals, states, rounds);
         strides[j] = a.strides.0;
         s = a.satellite;
         rows += a.rows;
-        at += m;
+        at = end;
         j += 1;
     }
 }
