@@ -30,9 +30,9 @@ use Rattle.sequences.proofs.Demand3.{demand-3}
 use Rattle.storage.specs.Storage.{tooShort, satelliteOf, placeNumbers, placeMarks, storeRefusal, storedNumbers, storedMarks, placedNumbers, placedMarks}
 use Rattle.storing.proofs.Rooms.{enough, length-numbers, length-marks}
 use Rattle.storing.proofs.Kept.{kept, placed}
-use Rattle.lent_requests.specs.Answer.{answer}
-use Rattle.saddlekerf.specs.Answer.{refusalAnswer}
-use Rattle.saddlekerf.specs.Pairs.{openAnswer, openNumbers, openMarks}
+use Rattle.answers.specs.Answer.{answer}
+use Rattle.answers.specs.Refusals.{refusalAnswer}
+use Rattle.lent_opening.specs.Opening.{openAnswer, openNumbers, openMarks}
 use Rattle.lent_requests.specs.Requests.{requestShort, rowPut, keptNumbers, keptMarks, Requested, listNumber, Listed}
 use Rattle.boundary_claims.specs.Sequences.{Memory, openedIn, Call, One, Many, Does, Calls, callTimes, timesOf, Tells, Told, toldStrides, aloneStrides, Sequences}
 

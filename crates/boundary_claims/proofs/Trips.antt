@@ -25,10 +25,10 @@ use Rattle.record_numbers.specs.Numbers.{numbersOf, givenOf}
 use Rattle.record_numbers.specs.declared.Given.{Given}
 use Rattle.record_numbers.specs.declared.Given.the-variants.{Fields, NoClass, TooShort}
 use Rattle.record_numbers.proofs.Back.{stored-is-given, given-is-stored}
-use Rattle.lent_requests.specs.Answer.{answer}
-use Rattle.saddlekerf.specs.Records.{recordFields, lineRefusal, lineOver, lineAnswer, writeAnswer, writeOut}
+use Rattle.answers.specs.Answer.{answer}
+use Rattle.lent_pairs.specs.Records.{recordFields, lineRefusal, lineOver, lineAnswer, writeAnswer, writeOut}
 use Rattle.boundary_claims.specs.Trips.{WritesBack, RecordsReturn, NumbersReturn}
-use Rattle.saddlekerf.proofs.Records.{accepted-stored}
+use Rattle.lent_pairs.proofs.Records.{accepted-stored}
 
 absurd : {B : Type 0} → ⊥ → B
 absurd = elim [ ]

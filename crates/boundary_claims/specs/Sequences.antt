@@ -17,8 +17,8 @@ use Rattle.sgp4.specs.Sgp4.{integratorOf}
 use Rattle.requests.specs.Lists.{listRefusal, listTimes, refusalsOf, statesOf, roundsOf, over}
 use Rattle.sequences.specs.Demand3 as D
 use Rattle.storage.specs.Storage.{satelliteOf}
-use Rattle.lent_requests.specs.Answer.{answer}
-use Rattle.saddlekerf.specs.Pairs.{openAnswer, openNumbers, openMarks}
+use Rattle.answers.specs.Answer.{answer}
+use Rattle.lent_opening.specs.Opening.{openAnswer, openNumbers, openMarks}
 use Rattle.lent_requests.specs.Requests.{rowPut, RequestPost, ListPost}
 
 -- the memory of a satellite

@@ -10,8 +10,8 @@ use Rattle.tle.specs.declared.Record.{Record}
 use Rattle.tle.specs.declared.Reading.the-variants as reading
 use Rattle.tle_writer.specs.Lines.{lineOf}
 use Rattle.record_numbers.specs.Numbers.{givenOf}
-use Rattle.lent_requests.specs.Answer.{answer}
-use Rattle.saddlekerf.specs.Records.{recordFields, writeAnswer, writeOut}
+use Rattle.answers.specs.Answer.{answer}
+use Rattle.lent_pairs.specs.Records.{recordFields, writeAnswer, writeOut}
 
 -- the numbers `fields` hold the record r: `saddlekerf_write` answers both its lines, in the writer's spelling, and reading those gives r
 pub record WritesBack (r : Record) (fields : List ℤ) (out : List ℕ) : Type 0 where

@@ -1,5 +1,4 @@
--- The laws that the proofs of the functions share, and an answer taken apart.
+-- The laws that the proofs of the functions share.
 mod Rooms
 mod Loads
 mod Posts
-pub mod Parts

@@ -15,7 +15,7 @@ use Rattle.requests.specs.declared.ListAnswer.{ListAnswer}
 use Rattle.requests.specs.Request.{answered}
 use Rattle.requests.specs.Lists as L
 use Rattle.storage.specs.Storage.{tooShort, satelliteOf, placedNumbers, placedMarks}
-use Rattle.lent_requests.specs.Answer.{answer}
+use Rattle.answers.specs.Answer.{answer}
 use Rattle.lent_requests.specs.Requests.{requestShort, rowPut, keptNumbers, keptMarks, Requested, RequestPost, listNumber, savedNumbers, savedMarks, ListPost}
 
 -- ── one time ──

@@ -14,7 +14,7 @@ use Rattle.requests.specs.declared.Answered.{Answered}
 use Rattle.requests.specs.Request.{answered}
 use Rattle.requests.specs.Lists.{rowsFrom, stridesFrom, satelliteFrom, listRefusal, refusalsOf, roundsOf, stateOf, statesOf, over}
 use Rattle.storage.specs.Storage.{tooShort, satelliteOf, placedNumbers, placedMarks}
-use Rattle.lent_requests.specs.Answer.{answer}
+use Rattle.answers.specs.Answer.{answer}
 
 -- ── one time ──
 

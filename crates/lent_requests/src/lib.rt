@@ -1,10 +1,11 @@
 // Requests put to a satellite in memory that a caller lends: the functions behind `saddlekerf_request` and
-// `saddlekerf_request_list`, and the number that every function of that boundary answers.
+// `saddlekerf_request_list`.
 ghost use mathlib.Core.Path.{_≡_};
 ghost use Prim.Native.Nat.{_≤_};
 ghost use lib.ListN.{length};
-ghost use Rattle.lent_requests.specs.Answer.{answer};
+ghost use Rattle.answers.specs.Answer.{answer};
 ghost use Rattle.lent_requests.specs.Requests as R;
+use answers::answer;
 use instant::Microseconds;
 use requests::Answered;
 use requests::ListAnswer;
@@ -15,13 +16,6 @@ use sgp4::Row;
 use storage::Loading;
 use storage::load;
 use storing::store_place;
-
-// The parts of an answer, put together.
-pub fn answer(refusal: u8, detail: u8, place: u16, count: u32) -> u64
-    ensures { λ r. ⌜ r ≡ answer refusal detail place count ⌝ }
-{
-    refusal as u64 + 256 * (detail as u64) + 65536 * (place as u64) + 4294967296 * (count as u64)
-}
 
 // A row that is answered, at the front of a room.
 fn put_row(row: Row, state: &mut [f64])

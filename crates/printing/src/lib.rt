@@ -53,7 +53,7 @@ pub fn print_unopened(failed: &mut bool, line1: &[u8], line2: &[u8], number: u64
     }
 }
 
-// The parts of an answer's number, as specs/Answer of lent_requests puts them together.
+// The parts of an answer's number, as specs/Answer of answers puts them together.
 fn refusal_of(answer: u64) -> u8 {
     (answer % 256) as u8
 }
