@@ -146,7 +146,9 @@ fn begins(line: &[u8], byte: u8) -> bool {
 }
 
 // A line that ends what belongs to the satellite before it: a comment, or the first of a pair.
-fn first_line(failed: &mut bool, first: &mut [u8; 70], stage: Stage, line: &[u8]) -> Stage {
+fn first_line(failed: &mut bool, first: &mut [u8; 70], stage: Stage, line: &[u8]) -> Stage
+    ensures { λ _. ⌜ (now (failed .entry) ≡ true → now (failed .exit) ≡ true) ⌝ }
+{
     end_satellite(failed, stage);
     if begins(line, b'#') {
         print(failed, line);
@@ -165,7 +167,9 @@ pub enum Taken {
     Ask(Tally),
 }
 
-pub fn take_line(failed: &mut bool, first: &mut [u8; 70], stage: Stage, line: &[u8]) -> Taken {
+pub fn take_line(failed: &mut bool, first: &mut [u8; 70], stage: Stage, line: &[u8]) -> Taken
+    ensures { λ _. ⌜ (now (failed .entry) ≡ true → now (failed .exit) ≡ true) ⌝ }
+{
     if begins(line, b'1') | begins(line, b'#') {
         return Taken::Whole(first_line(failed, first, stage, line));
     }
