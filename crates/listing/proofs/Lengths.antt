@@ -27,7 +27,7 @@ one : (b : ℕ) → Within (b ∷ []) 1
 one b = record { at-most = omega arith }
 
 -- two texts with a blank between
-spaced : {s t : List ℕ} {a b : ℕ} → Within s a → Within t b → Within (s ++ (32 ∷ t)) (a + (b + 1))
+pub spaced : {s t : List ℕ} {a b : ℕ} → Within s a → Within t b → Within (s ++ (32 ∷ t)) (a + (b + 1))
 spaced {s} {t} {a} {b} h g = within h (record { at-most = omega (arith, g .at-most) })
 
 before-within : (b : ℕ) (s : List ℕ) → length (before b s) ≤ length s + 1
@@ -48,7 +48,7 @@ unfolding designatorText
 designator-within Blank = record { at-most = omega arith }
 designator-within (Piece launch a b c) = within (five-within launch) (record { at-most = trimmed-within (a ∷ b ∷ c ∷ []) })
 
-epoch-within : (year day : ℕ) → Within (epochText year day) 62
+pub epoch-within : (year day : ℕ) → Within (epochText year day) 62
 unfolding epochText
 epoch-within year day =
     spaced (decimal-within year) (spaced (decimal-within (day / 100000000)) (decimal-within (day % 100000000 * 864)))
@@ -57,7 +57,7 @@ scaled-within : (v : Scaled) → Within (scaledText v) 43
 unfolding scaledText
 scaled-within v = spaced (signed-within (v .mantissa)) (signed-within (v .exponent))
 
-count-within : (l : List ℕ) (n : ℕ) → Within (count l n) (length l + 21)
+pub count-within : (l : List ℕ) (n : ℕ) → Within (count l n) (length l + 21)
 count-within l n = line-within l (decimal-within n)
 
 fields1-within : (r : tle.Record) → Within (fields1 r) 450

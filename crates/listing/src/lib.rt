@@ -74,7 +74,7 @@ fn put_designator_line(out: &mut [u8], at: usize, label: &[u8], designator: Desi
 }
 
 // One unit of the day's last digit is 864 microseconds.
-fn put_epoch(out: &mut [u8], at: usize, label: &[u8], year: u64, day: u64) -> usize
+pub fn put_epoch(out: &mut [u8], at: usize, label: &[u8], year: u64, day: u64) -> usize
     ensures { λ r. ⌜ Put (now (out .entry)) at (line (now (label .entry)) (epochText year day)) (now (out .exit)) r ⌝ }
 {
     let p = put_bytes(out, at, label);
@@ -183,7 +183,7 @@ pub fn print_pair(line1: &[u8], line2: &[u8], out: &mut [u8]) -> Printed
     print_reading(reading, out)
 }
 
-fn kept_size(size: usize) -> usize
+pub fn kept_size(size: usize) -> usize
     ensures { λ r. ⌜ r ≡ min size 70 ⌝ }
 {
     if size < 70 {

@@ -18,7 +18,7 @@ beyond [] o i h = refl
 beyond (b ∷ s) o i h = rw (set-out o i b h) (beyond s o (suc i) (omega arith))
 
 -- a run of stores in two parts
-sets-more : (s t o : List ℕ) (i : ℕ) → sets (sets o i s) (i + length s) t ≡ sets o i (s ++ t)
+pub sets-more : (s t o : List ℕ) (i : ℕ) → sets (sets o i s) (i + length s) t ≡ sets o i (s ++ t)
 sets-more [] t o i = rw (add-zero i)
 sets-more (b ∷ s) t o i = rw (add-suc i (length s), ← suc-add i (length s)) (sets-more s t (set o i b) (suc i))
 

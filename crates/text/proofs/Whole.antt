@@ -14,12 +14,12 @@ use Rattle.text.specs.declared.input.Lines.{Lines}
 use Rattle.text.specs.Input.{lineOf, restOf, line1, line2, kept, empty, started, pushed, stepped, fed, held}
 
 -- a line's bytes so far are x
-record Holds (l : Line) (x : List ℕ) : Type 0 where
+pub record Holds (l : Line) (x : List ℕ) : Type 0 where
   pub long : length (l .bytes) ≡ 70
   pub count : l .size ≡ min (length x) 70
   pub front : take (l .size) (l .bytes) ≡ take 70 x
 
-none : Holds empty []
+pub none : Holds empty []
 none = record { long = refl; count = refl; front = refl }
 
 push-by : (t : Bool) (l : Line) (x : List ℕ) (b : ℕ) → ltb (l .size) 70 ≡ t → Holds l x
@@ -44,7 +44,7 @@ push-by false l x b e h =
       front = h .front ∙ sym (take-append-le 70 x (b ∷ []) m);
     }
 
-push-holds : {l : Line} {x : List ℕ} (b : ℕ) → Holds l x → Holds (pushed l b) (x ++ (b ∷ []))
+pub push-holds : {l : Line} {x : List ℕ} (b : ℕ) → Holds l x → Holds (pushed l b) (x ++ (b ∷ []))
 unfolding pushed
 push-holds {l} {x} b h = push-by (ltb (l .size) 70) l x b refl h
 

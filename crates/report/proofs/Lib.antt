@@ -1,0 +1,9 @@
+pub mod Feeding
+pub mod Counts
+pub mod Whole
+pub mod Times
+pub mod LineEnds
+pub mod Claims
+pub mod Lengths
+pub mod Printing
+pub mod Front

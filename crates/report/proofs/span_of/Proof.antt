@@ -1,0 +1,15 @@
+use mathlib.Core.Path.{refl}
+use Rattle.report.proofs.Printing.{no-span}
+use Rattle.report.specs.Report.{spanOf}
+use Rattle.report.proofs.span_of.Statement.{statement}
+use Rattle.report.proofs.span_of.Tie as tie
+
+returns : tie.Need-returns
+returns c = no-span _ _ (c .if1 .taken)
+
+returns-2 : tie.Need-returns-2
+unfolding spanOf
+returns-2 c = refl
+
+pub span-of-spec : {M : Type 1} → statement M
+span-of-spec = tie.close (tie.spec returns returns-2)
