@@ -38,7 +38,7 @@
  *   Nothing is allocated, nothing is kept after the return, and there is no global state: calls on
  *   different memory may run in any number of threads at once. A request writes the satellite, so
  *   one satellite takes one call at a time; copy the struct to ask it in two threads.
- *   A call that is refused with 1-9 or 16-22 writes nothing. Where memory "stays", it is proved to
+ *   A call that is refused with 1-9 or 16-24 writes nothing. Where memory "stays", it is proved to
  *   hold the same values; all NaNs are one value there, and that a NaN keeps its own bits too is
  *   tested and not proved.
  *
@@ -117,6 +117,10 @@ extern "C" {
 #define SADDLEKERF_PAIR 138
 #define SADDLEKERF_PLACES 64
 
+/* Elements of a report (enum saddlekerf_report_number), and the most pairs of its text. */
+#define SADDLEKERF_COUNTS 17
+#define SADDLEKERF_PAIRS_LIMIT 4096
+
 /* Refusal numbers. */
 enum saddlekerf_refusal_number {
     SADDLEKERF_ANSWERED = 0,
@@ -141,7 +145,9 @@ enum saddlekerf_refusal_number {
     SADDLEKERF_FULL = 19,                 /* all 64 places of the roster hold other numbers */
     SADDLEKERF_OLDER = 20,                /* the roster's pair of this number has a later epoch */
     SADDLEKERF_ABSENT = 21,               /* the roster has no pair of this number */
-    SADDLEKERF_NO_ROSTER = 22             /* the buffer is no roster, or has another length */
+    SADDLEKERF_NO_ROSTER = 22,            /* the buffer is no roster, or has another length */
+    SADDLEKERF_PAIRS = 23,                /* a text of more than 4,096 whole pairs */
+    SADDLEKERF_ODD = 24                   /* a text with an odd number of lines */
 };
 
 /* The fields of refusal 6, in column order. */
@@ -183,6 +189,22 @@ enum saddlekerf_record_field {
     SADDLEKERF_RECORD_ANOMALY = 19,       /* 1E-4 degrees, below 3600000 */
     SADDLEKERF_RECORD_MOTION = 20,        /* 1E-8 revolutions a day, 1 to 9999999999 */
     SADDLEKERF_RECORD_REVOLUTION = 21     /* 0 to 99999 */
+};
+
+/*
+ * The numbers of a report, in the order in which the program monday_report prints them. Each pair of
+ * the text counts once among 0-6, and each accepted one once among 7-9. With none accepted, 10-16 are
+ * 0. Of an epoch: the year, the day of the year, the microseconds of that day.
+ */
+enum saddlekerf_report_number {
+    SADDLEKERF_REPORT_ACCEPTED = 0,       /* pairs that saddlekerf_read accepts */
+    SADDLEKERF_REPORT_REFUSED = 0,        /* + n, 1 to 6: pairs that it refuses with n */
+    SADDLEKERF_REPORT_NEAR = 7,           /* accepted, and opened as near-Earth */
+    SADDLEKERF_REPORT_DEEP = 8,           /* accepted, and opened as deep-space */
+    SADDLEKERF_REPORT_UNOPENED = 9,       /* accepted, and refused with 7 or 8 by saddlekerf_open */
+    SADDLEKERF_REPORT_EARLIEST = 10,      /* three numbers: the earliest epoch of those accepted */
+    SADDLEKERF_REPORT_LATEST = 13,        /* three numbers: the latest */
+    SADDLEKERF_REPORT_SPAN = 16           /* microseconds between the two */
 };
 
 /* ---- the archive and the thread ---- */
@@ -295,6 +317,18 @@ uint64_t saddlekerf_lodge(uint8_t *roster, size_t roster_length,
  * Answer: 0; 22 where the buffer has another length or is no roster; 21 where it has no such pair.
  */
 uint64_t saddlekerf_withdraw(uint8_t *roster, size_t roster_length, uint64_t number);
+
+/* ---- a report ---- */
+
+/*
+ * Counts the pairs of a whole text, two lines each. A line ends at a newline, and a last one without
+ * a newline counts if it has a byte; what ends the lines otherwise, as a carriage return, belongs to
+ * them. The numbers go into the first 17 elements of counts; what lies past them stays.
+ * Answer: 23 where the text has more than 4,096 whole pairs (a line left over is no pair); 24 where it
+ * has an odd number of lines; 17 where counts is too short; else 0. No bytes are a report of nothing.
+ */
+uint64_t saddlekerf_report(const uint8_t *text, size_t text_length,
+                           uint64_t *counts, size_t counts_length);
 
 /* ---- a satellite ---- */
 

@@ -335,6 +335,39 @@ static void keep_roster(void)
     CHECK(holds(roster, both, 1));
 }
 
+/* A text counted, with what is left of the memory; refused, it is left as it was. */
+static void count_pairs(void)
+{
+    static const char OPPOSITE2[] = "2 00005 180.0000 348.7242 1859667 331.7664  19.3264 10.82419157413661";
+    static char text[2 * (SADDLEKERF_PAIRS_LIMIT + 1) * (LENGTH + 1)];
+    uint64_t counts[SADDLEKERF_COUNTS + 1], before[SADDLEKERF_COUNTS + 1];
+    size_t i, length;
+
+    for (i = 0; i <= SADDLEKERF_COUNTS; i++)
+        before[i] = counts[i] = 42 + i;
+    length = (size_t)sprintf(text, "%s\n%s\n%s\n%s\n%s\n%s\n%s\n%s", LINE1, LINE2, RESONANT1, RESONANT2, LINE1, OPPOSITE2,
+                             LINE1, RESONANT2);
+    CHECK(saddlekerf_report(bytes(text), length, counts, SADDLEKERF_COUNTS - 1) == SADDLEKERF_ROOM);
+    CHECK(saddlekerf_report(bytes(text), length - LENGTH - 1, counts, SADDLEKERF_COUNTS) == SADDLEKERF_ODD);
+    CHECK(memcmp(counts, before, sizeof counts) == 0);
+    CHECK(saddlekerf_report(bytes(text), length, counts, SADDLEKERF_COUNTS + 1) == SADDLEKERF_ANSWERED);
+    CHECK(counts[SADDLEKERF_REPORT_ACCEPTED] == 3 && counts[SADDLEKERF_REPORT_REFUSED + 5] == 1);
+    CHECK(counts[SADDLEKERF_REPORT_NEAR] == 1 && counts[SADDLEKERF_REPORT_DEEP] == 1);
+    CHECK(counts[SADDLEKERF_REPORT_UNOPENED] == 1);
+    CHECK(counts[SADDLEKERF_REPORT_EARLIEST] == 2000 && counts[SADDLEKERF_REPORT_EARLIEST + 1] == 179);
+    CHECK(counts[SADDLEKERF_REPORT_EARLIEST + 2] == UINT64_C(67819733568));
+    CHECK(counts[SADDLEKERF_REPORT_LATEST] == 2006 && counts[SADDLEKERF_REPORT_SPAN] > UINT64_C(180000000000000));
+    CHECK(counts[SADDLEKERF_COUNTS] == 42 + SADDLEKERF_COUNTS);
+    for (i = length = 0; i <= SADDLEKERF_PAIRS_LIMIT; i++)
+        length += (size_t)sprintf(text + length, "%s\n%s\n", LINE1, LINE2);
+    CHECK(saddlekerf_report(bytes(text), length, counts, SADDLEKERF_COUNTS) == SADDLEKERF_PAIRS);
+    CHECK(saddlekerf_report(bytes(text), length - LENGTH - 1, counts, SADDLEKERF_COUNTS) == SADDLEKERF_ODD);
+    CHECK(counts[SADDLEKERF_REPORT_ACCEPTED] == 3);
+    length -= 2 * (LENGTH + 1);
+    CHECK(saddlekerf_report(bytes(text), length, counts, SADDLEKERF_COUNTS) == SADDLEKERF_ANSWERED);
+    CHECK(counts[SADDLEKERF_REPORT_NEAR] == SADDLEKERF_PAIRS_LIMIT && counts[SADDLEKERF_REPORT_SPAN] == 0);
+}
+
 /* 64 numbers, and no place for another. */
 static void fill_roster(void)
 {
@@ -533,6 +566,8 @@ static void lend_nothing(void)
     CHECK(saddlekerf_record(one, LENGTH, two, LENGTH, NULL, 0) == SADDLEKERF_ROOM);
     CHECK(saddlekerf_write(NULL, 0, 1, f, 4) == SADDLEKERF_ROOM);
     CHECK(saddlekerf_write(EXAMPLE, SADDLEKERF_FIELDS, 1, NULL, 0) == SADDLEKERF_ROOM);
+    CHECK(saddlekerf_report(NULL, 0, NULL, 0) == SADDLEKERF_ROOM);
+    CHECK(saddlekerf_report(one, LENGTH, NULL, 0) == SADDLEKERF_ODD);
     CHECK(saddlekerf_open(NULL, 0, two, LENGTH, n, 83, k, 4) == (SADDLEKERF_LENGTH | 1 << 8));
     CHECK(saddlekerf_open(one, LENGTH, NULL, 0, n, 83, k, 4) == (SADDLEKERF_LENGTH | 2 << 8));
     CHECK(saddlekerf_open(one, LENGTH, two, LENGTH, NULL, 0, k, 4) == SADDLEKERF_ROOM);
@@ -684,6 +719,7 @@ int main(int argc, char **argv)
     short_year();
     keep_roster();
     fill_roster();
+    count_pairs();
     count_strides();
     keep_memory();
     lend_nothing();

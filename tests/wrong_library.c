@@ -23,6 +23,7 @@ uint64_t __real_saddlekerf_write(const int64_t *fields, size_t fields_length, ui
                                  size_t out_length);
 uint64_t __real_saddlekerf_lodge(uint8_t *roster, size_t roster_length, PAIR);
 uint64_t __real_saddlekerf_withdraw(uint8_t *roster, size_t roster_length, uint64_t number);
+uint64_t __real_saddlekerf_report(const uint8_t *text, size_t text_length, uint64_t *counts, size_t counts_length);
 uint64_t __real_saddlekerf_open(PAIR, SATELLITE);
 uint64_t __real_saddlekerf_request(SATELLITE, int64_t time, double *state, size_t state_length);
 uint64_t __real_saddlekerf_request_list(SATELLITE, const int64_t *times, size_t times_length, uint8_t *refusals,
@@ -165,6 +166,22 @@ uint64_t __wrap_saddlekerf_withdraw(uint8_t *roster, size_t roster_length, uint6
         roster[roster_length - 1] ^= 1;
     if (saddlekerf_refusal(a) == SADDLEKERF_ABSENT && wrong("withdraw-absent"))
         return 0;
+    return a;
+}
+
+uint64_t __wrap_saddlekerf_report(const uint8_t *text, size_t text_length, uint64_t *counts, size_t counts_length)
+{
+    const uint64_t a = __real_saddlekerf_report(text, text_length, counts, counts_length);
+    if (a == 0 && counts[SADDLEKERF_REPORT_UNOPENED] > 0 && wrong("report-unopened"))
+        counts[SADDLEKERF_REPORT_UNOPENED] = 0;
+    if (a == 0 && wrong("report-span"))
+        counts[SADDLEKERF_REPORT_SPAN] /= 1000;
+    if (a == 0 && counts_length > SADDLEKERF_COUNTS && wrong("report-past"))
+        counts[SADDLEKERF_COUNTS] = 0;
+    if (a != 0 && counts_length > 0 && wrong("report-refused"))
+        counts[0] = 0;
+    if (a == SADDLEKERF_PAIRS && wrong("report-order"))
+        return SADDLEKERF_ODD;
     return a;
 }
 

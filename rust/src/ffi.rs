@@ -89,6 +89,13 @@ mod c {
 
         pub fn saddlekerf_withdraw(roster: *mut u8, roster_length: usize, number: u64) -> u64;
 
+        pub fn saddlekerf_report(
+            text: *const u8,
+            text_length: usize,
+            counts: *mut u64,
+            counts_length: usize,
+        ) -> u64;
+
         pub fn saddlekerf_open(
             line1: *const u8,
             line1_length: usize,
@@ -212,6 +219,11 @@ pub fn withdraw(roster: &mut [u8], number: u64) -> u64 {
     unsafe { c::saddlekerf_withdraw(roster.as_mut_ptr(), roster.len(), number) }
 }
 
+pub fn report(text: &[u8], counts: &mut [u64]) -> u64 {
+    // SAFETY: a shared slice and a mutable one.
+    unsafe { c::saddlekerf_report(text.as_ptr(), text.len(), counts.as_mut_ptr(), counts.len()) }
+}
+
 pub fn open(line1: &[u8], line2: &[u8], numbers: &mut [f64], marks: &mut [u32]) -> u64 {
     // SAFETY: all four are slices, the last two mutable, so that they overlap nothing.
     unsafe {
@@ -276,7 +288,7 @@ pub fn request_list(
 #[cfg(test)]
 mod tests {
     use super::*;
-    use crate::{Record, Roster, Satellite, PRINT_ROOM};
+    use crate::{Record, Report, Roster, Satellite, PRINT_ROOM};
 
     /// The numbers written here are the header's.
     #[test]
@@ -298,6 +310,8 @@ mod tests {
         assert_eq!(defined("ROSTER"), Roster::SIZE as i64);
         assert_eq!(defined("PAIR"), Roster::PAIR as i64);
         assert_eq!(defined("PLACES"), Roster::PLACES as i64);
+        assert_eq!(defined("COUNTS"), Report::NUMBERS as i64);
+        assert_eq!(defined("PAIRS_LIMIT"), Report::PAIRS_LIMIT as i64);
         assert_eq!(defined("VERSION"), VERSION as i64);
     }
 

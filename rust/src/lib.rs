@@ -52,6 +52,21 @@
 //! # }
 //! ```
 //!
+//! A report counts the pairs of a text, up to 4,096, and prints as the program `monday_report` does:
+//!
+//! ```
+//! use saddlekerf::{Refusal, Report};
+//!
+//! # fn main() -> Result<(), Refusal> {
+//! # let line1 = "1 00005U 58002B   00179.78495062  .00000023  00000-0  28098-4 0  4753";
+//! # let line2 = "2 00005  34.2682 348.7242 1859667 331.7664  19.3264 10.82419157413667";
+//! let report = Report::of(format!("{line1}\n{line2}\n").as_bytes())?;
+//! assert_eq!((report.accepted, report.near, report.span), (1, 1, Some(0)));
+//! assert!(report.to_string().ends_with("latest 2000 179 67819733568\nspan 0\n"));
+//! # Ok(())
+//! # }
+//! ```
+//!
 //! Lines are any bytes at all, without a line end. They get an answer or exactly one [`Refusal`],
 //! with the line, the first column that breaks the layout, or the field, where it has one.
 //!
@@ -80,12 +95,14 @@
 mod ffi;
 mod record;
 mod refusal;
+mod report;
 mod roster;
 mod satellite;
 mod time;
 
 pub use record::{Exponential, Record};
 pub use refusal::{Field, Line, Refusal};
+pub use report::{count_text, Date, Report};
 pub use roster::{lodge, withdraw, Pair, Roster};
 pub use satellite::{Answer, Rooms, Row, Rows, Satellite, State};
 pub use time::{Instant, Microseconds, Strides};

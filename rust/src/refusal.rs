@@ -77,10 +77,14 @@ pub enum Refusal {
     Absent,
     /// 22: a buffer is no roster, or has another length.
     NoRoster,
+    /// 23: a text of more than 4,096 whole pairs.
+    Pairs,
+    /// 24: a text with an odd number of lines.
+    Odd,
 }
 
 impl Refusal {
-    /// The refusal's number, 1 to 22.
+    /// The refusal's number, 1 to 24.
     pub const fn number(self) -> u8 {
         match self {
             Refusal::Length { .. } => 1,
@@ -105,6 +109,8 @@ impl Refusal {
             Refusal::Older => 20,
             Refusal::Absent => 21,
             Refusal::NoRoster => 22,
+            Refusal::Pairs => 23,
+            Refusal::Odd => 24,
         }
     }
 }
@@ -145,6 +151,8 @@ impl fmt::Display for Refusal {
             Refusal::Older => f.write_str("an epoch older than that of the roster's pair"),
             Refusal::Absent => f.write_str("no pair of this number"),
             Refusal::NoRoster => f.write_str("the buffer is no roster"),
+            Refusal::Pairs => f.write_str("a text of more than 4,096 pairs"),
+            Refusal::Odd => f.write_str("a text with an odd number of lines"),
         }
     }
 }
@@ -233,6 +241,8 @@ impl Answer {
             20 => Refusal::Older,
             21 => Refusal::Absent,
             22 => Refusal::NoRoster,
+            23 => Refusal::Pairs,
+            24 => Refusal::Odd,
             _ => return None,
         })
     }
@@ -320,6 +330,8 @@ mod tests {
             (20, 20, Refusal::Older, "an epoch older than that of the roster's pair"),
             (21, 21, Refusal::Absent, "no pair of this number"),
             (22, 22, Refusal::NoRoster, "the buffer is no roster"),
+            (23, 23, Refusal::Pairs, "a text of more than 4,096 pairs"),
+            (24, 24, Refusal::Odd, "a text with an odd number of lines"),
         ];
         for (answer, number, refusal, text) in table {
             assert_eq!(Answer(answer).plain(), Err(refusal));
@@ -344,7 +356,7 @@ mod tests {
     fn another_answer_is_no_refusal() {
         let told = |ask: fn(Answer) -> bool, answer| std::panic::catch_unwind(|| ask(Answer(answer))).is_ok();
         let plain = |answer: Answer| answer.plain().is_ok();
-        for answer in [23, 1, 0x0301, 0x0001_0101, 0x0100_0103, 0x0006, 0x0007_0006, 0x0107, 0x0001_0009] {
+        for answer in [25, 1, 0x0301, 0x0001_0101, 0x0100_0103, 0x0006, 0x0007_0006, 0x0107, 0x0001_0009] {
             assert!(!told(plain, answer), "{answer:#x}");
         }
         for answer in [1 << 32, 4 << 8, 1 << 16, 9 | 1 << 32] {

@@ -9,6 +9,8 @@ ghost use Rattle.listing.specs.Listing as T;
 ghost use Rattle.opening.specs.Opening.{openPairOf};
 ghost use Rattle.record_numbers.specs.Numbers.{givenOf};
 ghost use Rattle.roster.specs.Calls.{lodgingOf, lodgedOver, withdrawalOf, withdrawnOver};
+ghost use Rattle.report.specs.Report.{reportOf};
+ghost use Rattle.report.specs.Numbers.{storeRefusal, storedOver};
 ghost use Rattle.lent_pairs.specs.Pairs as P;
 ghost use Rattle.lent_pairs.specs.Records as C;
 ghost use Rattle.lent_pairs.specs.Roster.{lodgingAnswer, withdrawalAnswer};
@@ -25,6 +27,7 @@ use lent_pairs::withdraw_answer;
 use lent_pairs::write_answer;
 use lent_requests::request_held;
 use lent_requests::request_list_held;
+use report::numbers::count_text;
 
 // The version of the library, as one number.
 #[no_mangle]
@@ -103,6 +106,15 @@ pub extern "C" fn saddlekerf_withdraw(roster: &mut [u8], number: u64) -> u64
     ensures { λ _. ⌜ now (roster .exit) ≡ withdrawnOver (now (roster .entry)) number ⌝ }
 {
     withdraw_answer(roster, number)
+}
+
+// The report of a whole text, its 17 numbers at the front of `counts` (crate report, specs/Numbers).
+#[no_mangle]
+pub extern "C" fn saddlekerf_report(text: &[u8], counts: &mut [u64]) -> u64
+    ensures { λ r. ⌜ r ≡ storeRefusal (reportOf (now (text .entry))) (length (now (counts .entry))) ⌝ }
+    ensures { λ _. ⌜ now (counts .exit) ≡ storedOver (reportOf (now (text .entry))) (now (counts .entry)) ⌝ }
+{
+    count_text(text, counts)
 }
 
 // Opens a pair into lent memory.
