@@ -2,10 +2,11 @@
 //! random sequences of requests. A case is found again by its seed and number.
 
 use crate::elementary::Document;
-use crate::generate::{self, Aim, Ask, Call, AIMS, DAMAGES};
+use crate::generate::{self, Aim, Ask, Call, AIMS, DAMAGES, TEXTS};
 use crate::instant::{self, DAY};
 use crate::library::{Library, Opened};
 use crate::random::Random;
+use crate::report;
 use crate::request::{Row, Satellite, Saved};
 use crate::roster;
 use crate::sgp4::{self, Elements};
@@ -62,6 +63,7 @@ const DAMAGED: u64 = 2;
 const HANDED: u64 = 3;
 const RECORD: u64 = 4;
 const ROSTER: u64 = 5;
+const REPORT: u64 = 6;
 
 /// A state that no library writes, to see what it leaves alone: NaNs with bits of their own among it.
 const UNTOUCHED: [f64; 6] = [
@@ -518,6 +520,57 @@ pub fn roster_case(
     let mut random = case_random(seed, ROSTER, index);
     call_all(&mut random, libraries, tally).map_err(|what| Difference {
         case: format!("seed {seed}, roster {index}"),
+        line1: String::new(),
+        line2: String::new(),
+        what,
+    })
+}
+
+/// What was met in a text: its refusal, and of its numbers those that are not 0.
+fn reported(refusal: u8, numbers: &[u64], tally: &mut Tally) {
+    tally.add(format!("report: refusal {refusal:>2}"), 1);
+    if refusal == 0 {
+        let names =
+            ["accepted", "refused 1", "refused 2", "refused 3", "refused 4", "refused 5", "refused 6"];
+        for (name, &count) in names.iter().chain(&["near", "deep", "unopened"]).zip(numbers) {
+            tally.add(format!("report: {name}"), count);
+        }
+        tally.add("report: a span", (numbers[report::NUMBERS - 1] > 0) as u64);
+    }
+}
+
+/// A text counted by both into rooms of the same length, with everything that is left of them.
+fn report_both(
+    random: &mut Random,
+    libraries: (&dyn Library, &dyn Library),
+    tally: &mut Tally,
+) -> Result<(), String> {
+    let damage = *random.pick(&TEXTS);
+    let text = generate::damaged_text(random, damage);
+    let length = *random.pick(&[0, 1, 16, 17, 17, 17, 18, 30]);
+    let room: Vec<u64> = (0..length).map(|_| random.next_u64()).collect();
+    let (mut first, mut second) = (room.clone(), room.clone());
+    let a = libraries.0.report(&text, &mut first);
+    let b = libraries.1.report(&text, &mut second);
+    let what = format!("report of {} bytes, {damage}", text.len());
+    same_or(&what, a == b, &a, &b)?;
+    same_or(&format!("{what}: room"), first == second, &first, &second)?;
+    same_or(&format!("{what}: room after a refusal"), a.is_ok() || first == room, &room, &first)?;
+    tally.add(format!("text: {damage}"), 1);
+    reported(a.err().unwrap_or(0), &first, tally);
+    Ok(())
+}
+
+/// Case `index` of the texts.
+pub fn report_case(
+    seed: u64,
+    index: u64,
+    libraries: (&dyn Library, &dyn Library),
+    tally: &mut Tally,
+) -> Result<(), Difference> {
+    let mut random = case_random(seed, REPORT, index);
+    report_both(&mut random, libraries, tally).map_err(|what| Difference {
+        case: format!("seed {seed}, report {index}"),
         line1: String::new(),
         line2: String::new(),
         what,

@@ -3,6 +3,7 @@
 
 use crate::instant::{self, DAY, SPAN_LIMIT};
 use crate::random::Random;
+use crate::report::PAIRS;
 use crate::request::{Saved, LIST_LIMIT, STRIDE};
 use crate::roster::{spelt, PAIR, PLACES, SIZE};
 use crate::sgp4::{RADIUSEARTHKM, XKE};
@@ -615,4 +616,66 @@ pub fn saved(random: &mut Random) -> Saved {
         xli: integrated(random, -7.0, 7.0),
         xni: integrated(random, 0.003, 0.01),
     }
+}
+
+// ------------------------------------------------------------------ texts
+
+/// What may have happened to a text, by name.
+pub const TEXTS: [&str; 7] = [
+    "nothing",
+    "no last newline",
+    "carriage returns",
+    "a line left over",
+    "a byte less",
+    "a newline more",
+    "bytes of any kind",
+];
+
+/// Pairs, whole and damaged, two lines each: mostly few, now and then as many as a report takes.
+fn text(random: &mut Random) -> Vec<u8> {
+    let mut text = Vec::new();
+    for _ in 0..random.below(9) * random.below(5) {
+        let aim = *random.pick(&AIMS);
+        let (one, two) = match random.below(3) {
+            0 => damaged_pair(random),
+            _ => {
+                let (one, two) = pair(random, aim);
+                (one.to_vec(), two.to_vec())
+            }
+        };
+        // a damage may be a newline
+        for line in [one, two] {
+            text.extend(line);
+            text.push(b'\n');
+        }
+    }
+    if random.one_in(40) && !text.is_empty() {
+        let lines = text.iter().filter(|&&byte| byte == b'\n').count();
+        text = text.repeat((2 * PAIRS).div_ceil(lines));
+    }
+    text
+}
+
+/// A text to which the named thing has happened.
+pub fn damaged_text(random: &mut Random, damage: &str) -> Vec<u8> {
+    let mut text = text(random);
+    let place = random.below(text.len() as u64 + 1) as usize;
+    match damage {
+        "nothing" => {}
+        "no last newline" => drop(text.pop()),
+        "carriage returns" => {
+            text = text.split(|&byte| byte == b'\n').collect::<Vec<_>>().join(&b"\r\n"[..]);
+        }
+        "a line left over" => text.extend(&b"1 \n"[..1 + random.below(3) as usize]),
+        "a byte less" => text.truncate(text.len().saturating_sub(place % 3)),
+        "a newline more" => text.insert(place, b'\n'),
+        "bytes of any kind" => {
+            for _ in 0..random.below(300) {
+                let byte = random.below(256) as u8;
+                text.push(if random.one_in(9) { b'\n' } else { byte });
+            }
+        }
+        _ => unreachable!("{damage}"),
+    }
+    text
 }

@@ -9,6 +9,7 @@
 //! - [`instant`]: the calendar, minutes, Julian dates, the Greenwich angle.
 //! - [`tle`]: reading, writing and printing two-line sets.
 //! - [`roster`]: pairs lodged and withdrawn in a lent buffer.
+//! - [`report`]: the pairs of a text counted.
 //! - [`sgp4`]: 002's model.
 //! - [`request`]: opening, single requests and lists, the saved position.
 //! - [`published`]: the pairs of 002's test set.
@@ -23,6 +24,7 @@ pub mod library;
 pub mod proved;
 pub mod published;
 pub mod random;
+pub mod report;
 pub mod request;
 pub mod roster;
 pub mod sgp4;

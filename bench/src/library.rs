@@ -3,6 +3,7 @@
 
 use crate::elementary::{Document, Elementary};
 use crate::instant::{self, SPAN_LIMIT};
+use crate::report::{self, NUMBERS};
 use crate::request::{list_by, Row, Satellite, Saved, STRIDE};
 use crate::roster;
 use crate::tle::{self, Record, Refusal};
@@ -41,12 +42,16 @@ pub trait Library {
     fn lodge(&self, roster: &mut [u8], line1: &[u8], line2: &[u8]) -> Result<(), roster::Refusal>;
     /// Withdraws a number from the roster lent; or 22, 21, and the roster stays.
     fn withdraw(&self, roster: &mut [u8], number: u64) -> Result<(), u8>;
+    /// Counts the pairs of a text into the room lent; or 23, 24, 17, and the room stays.
+    fn report(&self, text: &[u8], room: &mut [u64]) -> Result<(), u8>;
     /// Reads and opens a pair.
     fn open(&self, line1: &[u8], line2: &[u8]) -> Result<Box<dyn Opened>, Unopened>;
     /// For timing: reads a pair.
     fn reader(&self, line1: &[u8], line2: &[u8]) -> Box<dyn Timed>;
     /// For timing: lodges a pair in a roster.
     fn lodger(&self, roster: &[u8], line1: &[u8], line2: &[u8]) -> Box<dyn Timed>;
+    /// For timing: counts the pairs of a text.
+    fn reporter(&self, text: &[u8]) -> Box<dyn Timed>;
     /// For timing: reads and opens a pair into memory made ready before.
     fn opener(&self, line1: &[u8], line2: &[u8]) -> Box<dyn Timed>;
     /// For timing: asks a newly opened satellite for the times, its rooms made ready before.
@@ -133,6 +138,10 @@ impl<E: Elementary + Copy + 'static> Library for Port<E> {
         roster::withdraw(roster, number)
     }
 
+    fn report(&self, text: &[u8], room: &mut [u64]) -> Result<(), u8> {
+        report::report::<E>(text, room)
+    }
+
     fn epoch(&self, line1: &[u8], line2: &[u8]) -> Result<u64, Refusal> {
         let record = tle::read(line1, line2)?;
         let micros = instant::from_epoch(record.year as i64, record.day as i64);
@@ -154,6 +163,10 @@ impl<E: Elementary + Copy + 'static> Library for Port<E> {
             line2: line2.to_vec(),
             lodge: roster::lodge,
         })
+    }
+
+    fn reporter(&self, text: &[u8]) -> Box<dyn Timed> {
+        Box::new(Reporter { text: text.to_vec(), room: [0; NUMBERS], report: report::report::<E> })
     }
 
     fn opener(&self, line1: &[u8], line2: &[u8]) -> Box<dyn Timed> {
@@ -208,6 +221,21 @@ impl<R> Timed for Lodger<R> {
             black_box(&self.line1),
             black_box(&self.line2),
         ));
+    }
+}
+
+/// A text to be counted, the room for its numbers, and what counts.
+pub struct Reporter<R> {
+    pub text: Vec<u8>,
+    pub room: [u64; NUMBERS],
+    pub report: fn(&[u8], &mut [u64]) -> R,
+}
+
+impl<R> Timed for Reporter<R> {
+    fn renew(&mut self) {}
+
+    fn run(&mut self) {
+        let _ = black_box((self.report)(black_box(&self.text), black_box(&mut self.room)));
     }
 }
 
@@ -314,6 +342,10 @@ impl<E: Elementary + Copy + 'static> Library for Restarting<E> {
         self.0.withdraw(roster, number)
     }
 
+    fn report(&self, text: &[u8], room: &mut [u64]) -> Result<(), u8> {
+        self.0.report(text, room)
+    }
+
     fn epoch(&self, line1: &[u8], line2: &[u8]) -> Result<u64, Refusal> {
         self.0.epoch(line1, line2)
     }
@@ -328,6 +360,10 @@ impl<E: Elementary + Copy + 'static> Library for Restarting<E> {
 
     fn lodger(&self, roster: &[u8], line1: &[u8], line2: &[u8]) -> Box<dyn Timed> {
         self.0.lodger(roster, line1, line2)
+    }
+
+    fn reporter(&self, text: &[u8]) -> Box<dyn Timed> {
+        self.0.reporter(text)
     }
 
     fn opener(&self, line1: &[u8], line2: &[u8]) -> Box<dyn Timed> {

@@ -1,6 +1,7 @@
 //! The proved library, called over its C boundary by the safe wrapper in rust/.
 
-use crate::library::{Library, Lodger, Opened, Reader, Timed, Told, Unopened};
+use crate::library::{Library, Lodger, Opened, Reader, Reporter, Timed, Told, Unopened};
+use crate::report::NUMBERS;
 use crate::request::{Row, Saved};
 use crate::roster;
 use crate::tle::{self, Exponential};
@@ -156,6 +157,10 @@ impl Library for Proved {
         saddlekerf::withdraw(roster, number).map_err(Refusal::number)
     }
 
+    fn report(&self, text: &[u8], room: &mut [u64]) -> Result<(), u8> {
+        saddlekerf::count_text(text, room).map_err(Refusal::number)
+    }
+
     fn open(&self, line1: &[u8], line2: &[u8]) -> Result<Box<dyn Opened>, Unopened> {
         match Satellite::open(line1, line2) {
             Ok(satellite) => Ok(Box::new(satellite)),
@@ -174,6 +179,10 @@ impl Library for Proved {
             line2: line2.to_vec(),
             lodge: saddlekerf::lodge,
         })
+    }
+
+    fn reporter(&self, text: &[u8]) -> Box<dyn Timed> {
+        Box::new(Reporter { text: text.to_vec(), room: [0; NUMBERS], report: saddlekerf::count_text })
     }
 
     fn opener(&self, line1: &[u8], line2: &[u8]) -> Box<dyn Timed> {

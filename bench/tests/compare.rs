@@ -1,6 +1,6 @@
 //! The short run of the comparison; `cargo run --release --bin compare` is the long one.
 
-use port::compare::{damaged_case, handed_case, record_case, roster_case, whole_case, Tally};
+use port::compare::{damaged_case, handed_case, record_case, report_case, roster_case, whole_case, Tally};
 use port::elementary::{Document, DocumentProcessor, Libm};
 use port::library::{Library, Opened, Port, Restarting, Timed, Told, Unopened};
 use port::proved::Proved;
@@ -114,6 +114,29 @@ fn rosters() {
     for damage in port::generate::DAMAGES {
         let name = format!("damage: {damage}");
         assert!(tally.of(&name) >= 50, "{name}: {}", tally.of(&name));
+    }
+}
+
+/// Texts of whole and damaged pairs, some as long as a report takes.
+#[test]
+fn reports() {
+    let (port, mut tally) = (Port::<Document>::new(), Tally::default());
+    for index in 0..1600 {
+        report_case(SEED, index, (&port, &Proved), &mut tally).unwrap_or_else(|found| panic!("{found}"));
+    }
+    println!("{tally}");
+    for number in [0, 17, 23, 24] {
+        let name = format!("report: refusal {number:>2}");
+        assert!(tally.of(&name) >= 3, "{name}: {}", tally.of(&name));
+    }
+    let counts = (1..7).map(|number| format!("refused {number}"));
+    for name in counts.chain(["accepted", "near", "deep", "unopened", "a span"].map(str::to_string)) {
+        let name = format!("report: {name}");
+        assert!(tally.of(&name) >= 10, "{name}: {}", tally.of(&name));
+    }
+    for damage in port::generate::TEXTS {
+        let name = format!("text: {damage}");
+        assert!(tally.of(&name) >= 20, "{name}: {}", tally.of(&name));
     }
 }
 
@@ -256,6 +279,16 @@ enum Slip {
     Absent,
     /// A buffer with a blank for a zero taken for a roster.
     BlankForZero,
+    /// Pairs that do not open counted as near.
+    UnopenedAsNear,
+    /// A span of a microsecond more.
+    Span,
+    /// 24 told before 23.
+    OddFirst,
+    /// A write past the numbers of a report.
+    PastTheNumbers,
+    /// A number of the room after a refused report.
+    ReportRefused,
 }
 
 /// The proved library with a slip. Rows slip only once, after `at` others that could have.
@@ -353,6 +386,23 @@ impl Library for Slipping {
             _ => {}
         }
         answer
+    }
+
+    fn report(&self, text: &[u8], room: &mut [u64]) -> Result<(), u8> {
+        let answer = Proved.report(text, room);
+        match (self.slip, answer) {
+            (Slip::UnopenedAsNear, Ok(())) => room[7] += std::mem::take(&mut room[9]),
+            (Slip::Span, Ok(())) if room[0] > 0 => room[16] += 1,
+            (Slip::PastTheNumbers, Ok(())) if room.len() > 17 => room[17] = 0,
+            (Slip::ReportRefused, Err(_)) if !room.is_empty() => room[0] = 0,
+            (Slip::OddFirst, Err(23)) => return Err(24),
+            _ => {}
+        }
+        answer
+    }
+
+    fn reporter(&self, _: &[u8]) -> Box<dyn Timed> {
+        unreachable!()
     }
 
     fn lodger(&self, _: &[u8], _: &[u8], _: &[u8]) -> Box<dyn Timed> {
@@ -486,6 +536,7 @@ fn found(slip: Slip, at: u64) -> String {
         let other = whole.and_then(|()| damaged_case(SEED, index, libraries, &mut tally));
         let other = other.and_then(|()| handed_case(SEED, index, libraries, &mut tally));
         let other = other.and_then(|()| roster_case(SEED, index, libraries, &mut tally));
+        let other = other.and_then(|()| report_case(SEED, index, libraries, &mut tally));
         if let Err(difference) = other.and_then(|()| record_case(SEED, index, libraries, &mut tally)) {
             return difference.what;
         }
@@ -541,6 +592,11 @@ fn every_other_slip_is_seen() {
         (Slip::LeftBehind, ["withdrawing"; 2]),
         (Slip::Absent, ["withdrawing"; 2]),
         (Slip::BlankForZero, ["lodging"; 2]),
+        (Slip::UnopenedAsNear, ["report"; 2]),
+        (Slip::Span, ["report"; 2]),
+        (Slip::OddFirst, ["report"; 2]),
+        (Slip::PastTheNumbers, ["report"; 2]),
+        (Slip::ReportRefused, ["report"; 2]),
     ] {
         let what = found(slip, 0);
         assert!(starts.iter().any(|start| what.starts_with(start)), "{slip:?}: {what}");

@@ -79,6 +79,11 @@ fn test_roster() {
 }
 
 #[test]
+fn test_report() {
+    written("tests/report_texts.py", "crates/test_report");
+}
+
+#[test]
 fn test_listing() {
     written("tests/print_cases.py", "crates/test_listing");
 }

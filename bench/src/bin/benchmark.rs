@@ -12,6 +12,7 @@ use port::elementary::{DocumentProcessor, Libm};
 use port::library::{Library, Port, Restarting, Timed};
 use port::proved::Proved;
 use port::published;
+use port::report::PAIRS;
 use port::request::LIST_LIMIT;
 use port::roster::{spelt, PLACES};
 use port::tle;
@@ -42,6 +43,13 @@ fn full_roster() -> (Vec<u8>, published::Pair) {
     let roster = (0..PLACES as u32).flat_map(|place| spelt(&record(1000 * place))).collect();
     let line = |which| tle::written(&record(32_000), which).expect("a lawful record").to_vec();
     (roster, (line(1), line(2)))
+}
+
+/// As many pairs as a report takes: those of the published set, again and again.
+fn full_text() -> Vec<u8> {
+    let pairs = published::pairs();
+    let lines = pairs.iter().cycle().take(PAIRS).flat_map(|(line1, line2)| [line1, line2]);
+    lines.flat_map(|line| line.iter().chain(b"\n")).copied().collect()
 }
 
 /// The libraries timed; ratios are the first one's time over another's. The
@@ -113,7 +121,7 @@ fn main() {
     };
     let libraries = libraries();
     println!(
-        "Nanoseconds per row, opening, reading or lodging, the best of {rounds} rounds. A ratio is the proved\n\
+        "Nanoseconds per row, opening, reading, lodging or pair of a report, the best of {rounds} rounds. A ratio is the proved\n\
          library's time over the other's: below 1 the library is the faster one.\n"
     );
     heading(&libraries.each_ref().map(|library| library.name()));
@@ -137,4 +145,7 @@ fn main() {
     let (roster, (line1, line2)) = full_roster();
     let mut timed = libraries.each_ref().map(|library| library.lodger(&roster, &line1, &line2));
     show("lodging into a full roster", &race(&mut timed, rounds, RUNS / 20, 1));
+    let text = full_text();
+    let mut timed = libraries.each_ref().map(|library| library.reporter(&text));
+    show("a pair of a report of 4,096", &race(&mut timed, rounds, 1, PAIRS));
 }
