@@ -45,7 +45,7 @@ fn main() {
     let mut failed = false;
     let state = read_all(&mut failed);
     let mut out = io::buffer();
-    let printed = report::print::print_report(state.finish(), &mut out);
+    let printed = report_lines::print_report(state.finish(), &mut out);
     let Printed::Written(n) = printed else {
         return;
     };

@@ -4,6 +4,4 @@ pub mod Whole
 pub mod Times
 pub mod LineEnds
 pub mod Claims
-pub mod Lengths
-pub mod Printing
 pub mod Front

@@ -11,11 +11,9 @@ use Rattle.tle.specs.declared.Reading.the-variants.{Record}
 use Rattle.report.specs.declared.Stamp.{Stamp}
 use Rattle.report.specs.declared.Tally.{Tally}
 use Rattle.report.specs.declared.State.{State}
-use Rattle.report.specs.declared.Report.{Report}
 use Rattle.report.specs.declared.Report.the-variants.{Counted}
 use Rattle.report.specs.Report.{linesOf, pairsOf, Pair, readingOf, stampOf, spanOf, tallyOf, mostPairs, reportOf}
 use Rattle.report.specs.State.{tallyFrom, noTally, fed, begun, finished}
-use Rattle.report.specs.Print.{reportText}
 
 -- ── the pieces in which a text comes do not matter ──
 
@@ -73,7 +71,7 @@ ReportTells = (text : List ℕ) (t : Tally) → reportOf text ≡ Counted t → 
 abbrev pub StampsAreInstants : Type 0
 StampsAreInstants = (p : Pair) (r : tle.Record) → readingOf p ≡ Record r → stampOf r .at ≡ epochMicros (r .year) (r .day)
 
--- ── the lines, and the text printed ──
+-- ── the lines ──
 
 -- The lines of a text, told from its end: a newline begins a line that is empty so far, and any other byte goes before the line that begins
 -- there; where none does, at the end of the text, it is a line of its own
@@ -87,7 +85,3 @@ linesBack (b ∷ text) = cond (eqb b 10) ([] ∷ linesBack text) (grow b (linesB
 
 abbrev pub LinesBothWays : Type 0
 LinesBothWays = (text : List ℕ) → linesOf text ≡ linesBack text
-
--- a buffer of this size is never too short
-abbrev pub TextsFit : Type 0
-TextsFit = (r : Report) → length (reportText r) ≤ 466

@@ -2,7 +2,6 @@
 // size. Memory is fixed whatever the text: of the pair that has begun the first 70 bytes of each line,
 // and the numbers of the report.
 pub mod numbers;
-pub mod print;
 
 ghost use mathlib.Core.Path.{_≡_};
 ghost use lib.ListN.{take};

@@ -9,7 +9,7 @@ use bytes::scan::find;
 use integers::magnitude;
 use listing::Printed;
 use report::State;
-use report::print::print_report;
+use report_lines::print_report;
 use request_line::Request;
 use request_line::read_request;
 

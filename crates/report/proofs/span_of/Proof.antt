@@ -1,11 +1,12 @@
 use mathlib.Core.Path.{refl}
-use Rattle.report.proofs.Printing.{no-span}
+use native.Mathlib.Omega.{arith}
 use Rattle.report.specs.Report.{spanOf}
 use Rattle.report.proofs.span_of.Statement.{statement}
 use Rattle.report.proofs.span_of.Tie as tie
 
 returns : tie.Need-returns
-returns c = no-span _ _ (c .if1 .taken)
+unfolding spanOf
+returns c = omega arith
 
 returns-2 : tie.Need-returns-2
 unfolding spanOf

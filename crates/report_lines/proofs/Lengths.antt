@@ -7,13 +7,13 @@ use lib.ListN.{length}
 use Rattle.text.specs.Output.{most, bytes, line}
 use Rattle.text.proofs.Lengths.{Within, within, line-within}
 use Rattle.listing.proofs.Lengths.{epoch-within, count-within}
 use Rattle.report.specs.declared.Stamp.{Stamp}
 use Rattle.report.specs.declared.Refusals.{Refusals}
 use Rattle.report.specs.declared.Report.{Report}
 use Rattle.report.specs.declared.Report.the-variants.{Counted, TooMany, Odd}
 use Rattle.report.specs.Report.{spanOf}
-use Rattle.report.specs.Print.{refusalsText, kindsText, spanText, dashes, timesText, tallyText, reportText}
-use Rattle.report.specs.Claims.{TextsFit}
+use Rattle.report_lines.specs.Print.{refusalsText, kindsText, spanText, dashes, timesText, tallyText, reportText}
+use Rattle.report_lines.specs.Claims.{TextsFit}
 
 refusals-within : (r : Refusals) → Within (refusalsText r) 186
 unfolding refusalsText

@@ -1,14 +1,14 @@
 // The report, printed: thirteen lines, or `refused` and the number, into a lent buffer.
 ghost use Rattle.text.specs.Output.{Put};
 ghost use Rattle.listing.specs.Listing.{Prints};
-ghost use Rattle.report.specs.Print as P;
-use crate::Refusals;
-use crate::Report;
-use crate::Stamp;
-use crate::Tally;
-use crate::span_of;
+ghost use Rattle.report_lines.specs.Print as P;
 use listing::Printed;
 use listing::put_epoch;
+use report::Refusals;
+use report::Report;
+use report::Stamp;
+use report::Tally;
+use report::span_of;
 use text::put_bytes;
 use text::put_line;
 
