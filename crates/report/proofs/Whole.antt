@@ -28,11 +28,11 @@ outcome c (a ∷ []) = closed c true
 outcome c (a ∷ b ∷ lines) = outcome (withPair c a b) lines
 
 -- the 70 bytes that are kept of each line decide
-kept-pair : (c : Count) (f g : Line) (x y : List ℕ) → Holds f x → Holds g y → withLines c f g ≡ withPair c x y
+pub kept-pair : (c : Count) (f g : Line) (x y : List ℕ) → Holds f x → Holds g y → withLines c f g ≡ withPair c x y
 unfolding withLines withPair tallied
 kept-pair c f g x y h k = rw (h .front, k .front, enough x y)
 
-abbrev at : Line → Line → ℕ → Count → State
+abbrev pub at : Line → Line → ℕ → Count → State
 at f g n c = record { lines = record { first = f; second = g; ended = n }; count = c }
 
 -- the text has ended in the first line of a pair
@@ -49,18 +49,18 @@ end1 c f g x (b ∷ y) h k =
     rw (ne-eqb (g .size) 0 (λ e. omega (arith, k .count)), kept-pair c f g x (b ∷ y) h k)
 
 -- a byte in the first line, and in the second
-turn0 : (t : Bool) (c : Count) (f g : Line) (b : ℕ) → eqb b 10 ≡ t → stepped (at f g 0 c) b ≡ cond t (at f g 1 c) (at (text.pushed f b) g 0 c)
+pub turn0 : (t : Bool) (c : Count) (f g : Line) (b : ℕ) → eqb b 10 ≡ t → stepped (at f g 0 c) b ≡ cond t (at f g 1 c) (at (text.pushed f b) g 0 c)
 unfolding stepped text.stepped settled
 turn0 true c f g b e = rw e
 turn0 false c f g b e = rw e
 
-turn1 : (t : Bool) (c : Count) (f g : Line) (b : ℕ) → eqb b 10 ≡ t
+pub turn1 : (t : Bool) (c : Count) (f g : Line) (b : ℕ) → eqb b 10 ≡ t
     → stepped (at f g 1 c) b ≡ cond t (at text.empty text.empty 0 (withLines c f g)) (at f (text.pushed g b) 1 c)
 unfolding stepped text.stepped settled
 turn1 true c f g b e = rw e
 turn1 false c f g b e = rw e
 
-fed-more : (s r : State) (b : ℕ) (i : List ℕ) → stepped s b ≡ r → fed s (b ∷ i) ≡ fed r i
+pub fed-more : (s r : State) (b : ℕ) (i : List ℕ) → stepped s b ≡ r → fed s (b ∷ i) ≡ fed r i
 unfolding fed
 fed-more s r b i e = rw e
 

@@ -91,8 +91,12 @@ noTally = record {
 abbrev pub nothing : Count
 nothing = record { pairs = 0; tally = noTally }
 
+-- no pair has begun
+abbrev pub fresh : Count → State
+fresh c = record { lines = text.started; count = c }
+
 abbrev pub begun : State
-begun = record { lines = text.started; count = nothing }
+begun = fresh nothing
 
 -- one pair more; past 4096 the number stays at 4097
 unfoldable pub withPair : Count → List ℕ → List ℕ → Count

@@ -4,7 +4,9 @@
 pub mod numbers;
 
 ghost use mathlib.Core.Path.{_≡_};
-ghost use lib.ListN.{take};
+ghost use Prim.Native.Nat.{_+_, _<_, _≤_};
+ghost use lib.ListN.{length, take, drop};
+ghost use Rattle.text.specs.Input.{lineOf};
 ghost use Rattle.report.specs.Report as R;
 ghost use Rattle.report.specs.State as S;
 use instant::Epoch;
@@ -264,44 +266,34 @@ fn tallied(t: Tally, line1: &[u8], line2: &[u8]) -> Tally
     with_reading(t, read(line1, line2))
 }
 
-fn tally_held(t: Tally, line1: [u8; 70], size1: usize, line2: [u8; 70], size2: usize) -> Tally
-    ensures { λ x. ⌜ x ≡ S.tallied t (take size1 line1) (take size2 line2) ⌝ }
-{
-    let n1 = kept_size(size1);
-    let n2 = kept_size(size2);
-    tallied(t, &line1[0..n1], &line2[0..n2])
-}
-
-fn with_pair(count: Count, first: Line, second: Line) -> Count
-    ensures { λ x. ⌜ x ≡ S.withLines count first second ⌝ }
+fn with_pair(count: Count, line1: &[u8], line2: &[u8]) -> Count
+    ensures { λ x. ⌜ x ≡ S.withPair count (now (line1 .entry)) (now (line2 .entry)) ⌝ }
 {
     let tally = count.tally;
     let n = count.pairs;
     if n < 4096 {
-        let line1 = first.bytes;
-        let line2 = second.bytes;
-        let tally = tally_held(tally, line1, first.size, line2, second.size);
         return Count {
             pairs: n + 1,
-            tally,
+            tally: tallied(tally, line1, line2),
         };
     }
     Count { pairs: 4097, tally }
 }
 
-// Once both lines have ended they are a pair, and the next one begins.
-fn settled(lines: Lines, count: Count) -> State
-    ensures { λ x. ⌜ x ≡ S.settled lines count ⌝ }
+fn with_held(count: Count, line1: [u8; 70], size1: usize, line2: [u8; 70], size2: usize) -> Count
+    ensures { λ x. ⌜ x ≡ S.withPair count (take size1 line1) (take size2 line2) ⌝ }
 {
-    if lines.ended < 2 {
-        return State { lines, count };
-    }
-    let first = lines.first;
-    let second = lines.second;
-    State {
-        lines: Lines::start(),
-        count: with_pair(count, first, second),
-    }
+    let n1 = kept_size(size1);
+    let n2 = kept_size(size2);
+    with_pair(count, &line1[0..n1], &line2[0..n2])
+}
+
+fn with_lines(count: Count, first: Line, second: Line) -> Count
+    ensures { λ x. ⌜ x ≡ S.withLines count first second ⌝ }
+{
+    let line1 = first.bytes;
+    let line2 = second.bytes;
+    with_held(count, line1, first.size, line2, second.size)
 }
 
 fn closed(count: Count, odd: bool) -> Report
@@ -345,6 +337,82 @@ fn nothing() -> Count
     Count { pairs: 0, tally }
 }
 
+// A state, and the index in the piece that comes next.
+struct Fed {
+    state: State,
+    next: usize,
+}
+
+// No pair has begun.
+fn fresh(count: Count, next: usize) -> Fed
+    ensures { λ r. ⌜ (r .state ≡ S.fresh count) × (r .next ≡ next) ⌝ }
+{
+    let state = State {
+        lines: Lines::start(),
+        count,
+    };
+    Fed { state, next }
+}
+
+// The index of the newline that ends the line from an index on, or the piece's length.
+fn line_end(piece: &[u8], from: usize) -> usize
+    requires { ⌜ from ≤ length (now piece) ⌝ }
+    ensures { λ r. ⌜ r ≡ from + length (lineOf (drop from (now (piece .entry)))) ⌝ }
+    ensures { λ r. ⌜ r ≤ length (now (piece .entry)) ⌝ }
+{
+    let mut i = from;
+    while i < piece.len() {
+        if piece[i] == b'\n' {
+            return i;
+        }
+        i += 1;
+    }
+    i
+}
+
+// The pairs that are whole in the piece from an index on, read where they stand.
+fn feed_whole(count: Count, piece: &[u8], from: usize) -> Fed
+    requires { ⌜ from ≤ length (now piece) ⌝ }
+    ensures { λ r. ⌜ S.fed (r .state) (drop (r .next) (now (piece .entry))) ≡ S.fed (S.fresh count) (drop from (now (piece .entry))) ⌝ }
+    ensures { λ r. ⌜ (from ≤ r .next) × (r .next ≤ length (now (piece .entry))) ⌝ }
+{
+    let mut count = count;
+    let mut i = from;
+    let mut a = line_end(piece, i);
+    while a < piece.len() {
+        let b = line_end(piece, a + 1);
+        if b == piece.len() {
+            return fresh(count, i);
+        }
+        count = with_pair(count, &piece[i..a], &piece[a + 1..b]);
+        i = b + 1;
+        a = line_end(piece, i);
+    }
+    fresh(count, i)
+}
+
+// The pair that has begun, byte by byte, and the whole pairs behind it.
+fn feed_pair(state: State, piece: &[u8], from: usize) -> Fed
+    requires { ⌜ from < length (now piece) ⌝ }
+    ensures { λ r. ⌜ S.fed (r .state) (drop (r .next) (now (piece .entry))) ≡ S.fed state (drop from (now (piece .entry))) ⌝ }
+    ensures { λ r. ⌜ (from < r .next) × (r .next ≤ length (now (piece .entry))) ⌝ }
+{
+    let mut lines = state.lines;
+    let count = state.count;
+    let mut i = from;
+    while i < piece.len() {
+        lines = lines.feed(&piece[i..i + 1]);
+        i += 1;
+        if lines.ended >= 2 {
+            let first = lines.first;
+            let second = lines.second;
+            return feed_whole(with_lines(count, first, second), piece, i);
+        }
+    }
+    let state = State { lines, count };
+    Fed { state, next: i }
+}
+
 impl State {
     pub fn start() -> State
         ensures { λ x. ⌜ x ≡ S.begun ⌝ }
@@ -362,10 +430,9 @@ impl State {
         let mut state = self;
         let mut i = 0;
         while i < piece.len() {
-            let lines = state.lines;
-            let count = state.count;
-            state = settled(lines.feed(&piece[i..i + 1]), count);
-            i += 1;
+            let fed = feed_pair(state, piece, i);
+            state = fed.state;
+            i = fed.next;
         }
         state
     }
@@ -384,7 +451,7 @@ impl State {
         if second.size == 0 {
             return closed(count, true);
         }
-        closed(with_pair(count, first, second), false)
+        closed(with_lines(count, first, second), false)
     }
 }
 

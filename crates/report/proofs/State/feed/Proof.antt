@@ -1,8 +1,8 @@
-use Rattle.report.specs.State.{fed, settled}
-use Rattle.report.proofs.Feeding.{turn, end}
+use Rattle.report.specs.State.{fed}
+use Rattle.report.proofs.Feeding.{end}
 use lib.ListN.{length, drop}
 use Prim.Native.Nat.{_≤_, _-_}
-use mathlib.Core.Path.{_≡_, refl, sym, ap, _∙_}
+use mathlib.Core.Path.{_≡_, refl, sym, _∙_}
 use native.Mathlib.Omega.{arith}
 use denote.Ref.{now}
 use borrow.Author.Needs.{needs}
@@ -18,12 +18,18 @@ abbrev μ-loop : tie.MeasureT-loop
 loop-holds : tie.Need-loop-holds Inv-loop μ-loop
 loop-holds c = (search needs, refl)
 
+feed-pair-requires : tie.Need-feed-pair-requires Inv-loop μ-loop
+feed-pair-requires c κs = c .loop-test .taken
+
+loop-less : tie.Need-loop-less Inv-loop μ-loop
+loop-less c =
+    let f = c .before .feed-pair in
+    omega (arith, f .ensures .1 .0, f .ensures .1 .1)
+
 loop-again : tie.Need-loop-again Inv-loop μ-loop
 loop-again c =
-    let f = c .before in
-    let l = f .before .before .before .before .before .loop in
-    let p = now (f .before .before .before .before .before .before .before .args .piece) in
-    (search needs, sym (turn (l .state) _ p (l .i) (omega arith) (c .settled .ensures ∙ ap (λ x. settled x (l .state .count)) (f .feed .ensures))) ∙ l .inv .1)
+    let f = c .before .feed-pair in
+    (f .ensures .1 .1, f .ensures .0 ∙ c .before .before .before .loop .inv .1)
 
 returns : tie.Need-returns Inv-loop μ-loop
 returns c =
@@ -31,19 +37,4 @@ returns c =
     sym (end (l .state) (now (c .before .before .before .args .piece)) (l .i) (c .loop-test .left)) ∙ l .inv .1
 
 pub feed-spec : {M : Type 1} → statement M
-feed-spec =
-    tie.close
-    (tie.spec
-    Inv-loop
-    μ-loop
-    loop-holds
-    (λ c. search needs)
-    (λ c. search needs)
-    (λ c. search needs)
-    (λ c. search needs)
-    (λ c κs. search needs)
-    (λ c κs. search needs)
-    (λ c. search needs)
-    (λ c. search needs)
-    loop-again
-    returns)
+feed-spec = tie.close (tie.spec Inv-loop μ-loop loop-holds feed-pair-requires loop-less loop-again returns)

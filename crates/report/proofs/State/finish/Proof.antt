@@ -16,7 +16,7 @@ returns-3 : tie.Need-returns-3
 unfolding finished
 returns-3 c =
     let w = c .before in
-    simp (c .closed3 .ensures, w .with-pair .ensures, ne-eqb _ _ (w .before .before .before .if1 .left), ne-eqb _ _ (w .before .if2 .left))
+    simp (c .closed3 .ensures, w .with-lines .ensures, ne-eqb _ _ (w .before .before .before .if1 .left), ne-eqb _ _ (w .before .if2 .left))
 
 pub finish-spec : {M : Type 1} → statement M
 finish-spec =
