@@ -67,7 +67,7 @@
  *
  * ANSWERS
  *
- *   Every function but the versions answers one 64-bit number:
+ *   Every function but the versions and saddlekerf_checksum answers one 64-bit number:
  *
  *     bits  0-7   refusal number, 0 when answered (enum saddlekerf_refusal_number)
  *     bits  8-15  line 1 or 2 (refusals 1-4); rounds of Kepler's equation (saddlekerf_request)
@@ -253,6 +253,13 @@ static inline uint32_t saddlekerf_written(uint64_t answer) { return (uint32_t)(a
  */
 uint64_t saddlekerf_read(const uint8_t *line1, size_t line1_length,
                          const uint8_t *line2, size_t line2_length);
+
+/*
+ * The checksum digit of any number of bytes, 0 to 9: a digit adds itself, a minus sign 1, any other
+ * byte nothing, and the sum is taken modulo 10. Of the first 68 bytes of a line it is the digit that
+ * column 69 has to show. It refuses nothing, and the digit alone is the answer.
+ */
+uint64_t saddlekerf_checksum(const uint8_t *bytes, size_t bytes_length);
 
 /*
  * Prints the fields of a pair, a line of text for each, or "refused" and the number where reading

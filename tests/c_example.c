@@ -165,6 +165,9 @@ static void read_at_the_edges(void)
     CHECK(saddlekerf_refusal(a) == SADDLEKERF_RANGE);
     CHECK(saddlekerf_field(a) == SADDLEKERF_FIELD_NODE);
     CHECK(read_lines(LINE1, RESONANT2) == SADDLEKERF_CATALOGUE);
+    CHECK(saddlekerf_checksum(bytes(LINE1), LENGTH - 1) == 3);
+    CHECK(saddlekerf_checksum(bytes(LINE2), LENGTH - 1) == 7);
+    CHECK(saddlekerf_checksum(bytes("1+-,.AZaz 2"), 11) == 4);
 
     a = saddlekerf_epoch(bytes(LINE1), LENGTH, bytes(LINE1), LENGTH, &instant);
     CHECK(saddlekerf_refusal(a) == SADDLEKERF_START);
@@ -557,6 +560,7 @@ static void lend_nothing(void)
     memcpy(&before, &m, sizeof m);
     CHECK(saddlekerf_read(NULL, 0, two, LENGTH) == (SADDLEKERF_LENGTH | 1 << 8));
     CHECK(saddlekerf_read(one, LENGTH, NULL, 0) == (SADDLEKERF_LENGTH | 2 << 8));
+    CHECK(saddlekerf_checksum(NULL, 0) == 0);
     CHECK(saddlekerf_print(NULL, 0, NULL, 0, f, 4) == SADDLEKERF_ROOM);
     CHECK(saddlekerf_print(one, LENGTH, two, LENGTH, NULL, 0) == SADDLEKERF_ROOM);
     CHECK(saddlekerf_epoch(NULL, 0, two, LENGTH, &instant) == (SADDLEKERF_LENGTH | 1 << 8));

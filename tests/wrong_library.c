@@ -16,6 +16,7 @@
 
 uint64_t __real_saddlekerf_version(void);
 uint64_t __real_saddlekerf_read(PAIR);
+uint64_t __real_saddlekerf_checksum(const uint8_t *bytes, size_t bytes_length);
 uint64_t __real_saddlekerf_print(PAIR, uint8_t *out, size_t out_length);
 uint64_t __real_saddlekerf_epoch(PAIR, uint64_t *instant);
 uint64_t __real_saddlekerf_record(PAIR, int64_t *fields, size_t fields_length);
@@ -59,6 +60,16 @@ uint64_t __wrap_saddlekerf_read(PAIR)
         return SADDLEKERF_ANSWERED; /* day 366 of a common year */
     /* a value where the header has none */
     return a == SADDLEKERF_CATALOGUE && wrong("read-value") ? a | 1 << 8 : a;
+}
+
+uint64_t __wrap_saddlekerf_checksum(const uint8_t *bytes, size_t bytes_length)
+{
+    uint64_t a = __real_saddlekerf_checksum(bytes, bytes_length);
+    size_t i;
+    for (i = 0; i < bytes_length; i++)
+        if (bytes[i] == '+' && wrong("checksum-plus"))
+            a = (a + 1) % 10;
+    return a;
 }
 
 uint64_t __wrap_saddlekerf_print(PAIR, uint8_t *out, size_t out_length)

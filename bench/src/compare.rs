@@ -300,6 +300,10 @@ fn compare_pair(
         tally.add("read: day 366 of a common year", 1);
     }
     same_or("reading", a == b, &a, &b)?;
+    for line in [line1, line2] {
+        let (a, b) = (one.checksum(line), other.checksum(line));
+        same_or("checksum", a == b, &a, &b)?;
+    }
     let (a, b) = (one.epoch(line1, line2), other.epoch(line1, line2));
     same_or("epoch", a == b, &a, &b)?;
     let (a, b) = (one.print(line1, line2), other.print(line1, line2));

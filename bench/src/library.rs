@@ -30,6 +30,8 @@ pub trait Library {
     fn name(&self) -> String;
     /// Reads a pair: accepted, or a refusal 1-6 with its values.
     fn read(&self, line1: &[u8], line2: &[u8]) -> Result<(), Refusal>;
+    /// The checksum digit of any bytes.
+    fn checksum(&self, bytes: &[u8]) -> u8;
     /// The epoch of a pair, in microseconds from 1957; or as `read`.
     fn epoch(&self, line1: &[u8], line2: &[u8]) -> Result<u64, Refusal>;
     /// What the program prints for a pair.
@@ -116,6 +118,10 @@ impl<E: Elementary + Copy + 'static> Library for Port<E> {
 
     fn read(&self, line1: &[u8], line2: &[u8]) -> Result<(), Refusal> {
         tle::read(line1, line2).map(|_| ())
+    }
+
+    fn checksum(&self, bytes: &[u8]) -> u8 {
+        tle::checksum_of(bytes)
     }
 
     fn print(&self, line1: &[u8], line2: &[u8]) -> Vec<u8> {
@@ -320,6 +326,10 @@ impl<E: Elementary + Copy + 'static> Library for Restarting<E> {
 
     fn read(&self, line1: &[u8], line2: &[u8]) -> Result<(), Refusal> {
         self.0.read(line1, line2)
+    }
+
+    fn checksum(&self, bytes: &[u8]) -> u8 {
+        self.0.checksum(bytes)
     }
 
     fn print(&self, line1: &[u8], line2: &[u8]) -> Vec<u8> {

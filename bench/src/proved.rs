@@ -126,6 +126,10 @@ impl Library for Proved {
         saddlekerf::read(line1, line2).map_err(unread)
     }
 
+    fn checksum(&self, bytes: &[u8]) -> u8 {
+        saddlekerf::checksum(bytes)
+    }
+
     fn epoch(&self, line1: &[u8], line2: &[u8]) -> Result<u64, tle::Refusal> {
         saddlekerf::epoch(line1, line2).map(|instant| instant.0).map_err(unread)
     }

@@ -194,7 +194,12 @@ impl<'a> Columns<'a> {
 
 /// Columns 1-68: a digit adds itself, `-` adds 1, modulo 10.
 pub fn checksum(line: &[u8]) -> u8 {
-    let sum: u32 = line[..LENGTH - 1]
+    checksum_of(&line[..LENGTH - 1])
+}
+
+/// The same of any bytes.
+pub fn checksum_of(bytes: &[u8]) -> u8 {
+    let sum: u32 = bytes
         .iter()
         .map(|&b| match b {
             b'0'..=b'9' => (b - b'0') as u32,

@@ -255,6 +255,8 @@ enum Slip {
     Line,
     Field,
     OpenColumn,
+    /// A plus counted as 1 under the checksum.
+    Plus,
     Epoch,
     Text,
     /// A field of a record read.
@@ -317,6 +319,11 @@ impl Library for Slipping {
             (Slip::Field, Refusal::Range(Field::Node)) => Refusal::Range(Field::Perigee),
             _ => refusal,
         })
+    }
+
+    fn checksum(&self, bytes: &[u8]) -> u8 {
+        let plus = bytes.iter().filter(|&&byte| matches!(self.slip, Slip::Plus) && byte == b'+').count();
+        (Proved.checksum(bytes) as usize + plus) as u8 % 10
     }
 
     fn epoch(&self, line1: &[u8], line2: &[u8]) -> Result<u64, Refusal> {
@@ -579,6 +586,7 @@ fn every_other_slip_is_seen() {
         (Slip::Line, ["reading"; 2]),
         (Slip::Field, ["reading"; 2]),
         (Slip::OpenColumn, ["opening"; 2]),
+        (Slip::Plus, ["checksum"; 2]),
         (Slip::Epoch, ["epoch"; 2]),
         (Slip::Text, ["printing"; 2]),
         (Slip::RecordField, ["record"; 2]),

@@ -27,6 +27,12 @@ fn test_instants() {
     assert!(made == stored("crates/test_instants/stdin"));
 }
 
+#[test]
+fn test_checksum() {
+    let made = output(Command::new("python3").arg(root().join("tests/checksum_weights.py")));
+    assert!(made == stored("crates/test_checksum/stdout"));
+}
+
 /// A script that writes what a program is run on and what it must print, held
 /// to what is stored in the program's crate.
 fn written(script: &str, program: &str) {

@@ -44,6 +44,8 @@ mod c {
             line2_length: usize,
         ) -> u64;
 
+        pub fn saddlekerf_checksum(bytes: *const u8, bytes_length: usize) -> u64;
+
         pub fn saddlekerf_print(
             line1: *const u8,
             line1_length: usize,
@@ -160,6 +162,11 @@ pub fn mxcsr() -> u32 {
 pub fn read(line1: &[u8], line2: &[u8]) -> u64 {
     // SAFETY: both lines are slices, lent for reading.
     unsafe { c::saddlekerf_read(line1.as_ptr(), line1.len(), line2.as_ptr(), line2.len()) }
+}
+
+pub fn checksum(bytes: &[u8]) -> u64 {
+    // SAFETY: the bytes are a slice, lent for reading.
+    unsafe { c::saddlekerf_checksum(bytes.as_ptr(), bytes.len()) }
 }
 
 pub fn print(line1: &[u8], line2: &[u8], out: &mut [u8]) -> u64 {

@@ -117,6 +117,17 @@ pub fn read(line1: &[u8], line2: &[u8]) -> Result<(), Refusal> {
     Packed(ffi::read(line1, line2)).plain()
 }
 
+/// The checksum digit of any bytes, 0 to 9: a digit adds itself, a minus sign 1, any other byte nothing,
+/// and the sum is taken modulo 10. Of the first 68 bytes of a line it is what column 69 has to show.
+///
+/// ```
+/// let line1 = b"1 00005U 58002B   00179.78495062  .00000023  00000-0  28098-4 0  4753";
+/// assert_eq!(saddlekerf::checksum(&line1[..68]), 3);
+/// ```
+pub fn checksum(bytes: &[u8]) -> u8 {
+    ffi::checksum(bytes) as u8
+}
+
 /// Prints the fields of a pair, one a line, at the front of `out`, and returns the part written; or
 /// refusal 17. A pair that is not read prints `refused` and its number.
 pub fn print<'a>(line1: &[u8], line2: &[u8], out: &'a mut [u8]) -> Result<&'a mut [u8], Refusal> {

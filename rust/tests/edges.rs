@@ -1,6 +1,6 @@
 //! Document 01's example, its cases at the edges, and what lent memory holds afterwards.
 
-use saddlekerf::{epoch, print, printed, read};
+use saddlekerf::{checksum, epoch, print, printed, read};
 use saddlekerf::{Field, Instant, Line, Microseconds, Refusal, Rooms, Satellite, State, Strides};
 
 const LINE1: &[u8] = b"1 00005U 58002B   00179.78495062  .00000023  00000-0  28098-4 0  4753";
@@ -48,6 +48,30 @@ fn strides(satellite: &mut Satellite, minutes: &[i32]) -> Vec<u32> {
 fn bits(state: &State) -> [u64; 6] {
     let ([x, y, z], [vx, vy, vz]) = (state.position, state.velocity);
     [x, y, z, vx, vy, vz].map(f64::to_bits)
+}
+
+#[test]
+fn checksum_of_each_byte() {
+    for byte in 0..=255 {
+        let expected = match b"0123456789".iter().position(|&digit| digit == byte) {
+            Some(value) => value as u8,
+            None => u8::from(byte == b'-'),
+        };
+        assert_eq!(checksum(&[byte]), expected, "byte {byte}");
+    }
+}
+
+#[test]
+fn checksum_of_many_bytes() {
+    assert_eq!(checksum(b""), 0);
+    // document 01's example: 133 and 217
+    assert_eq!(checksum(&LINE1[..68]), 3);
+    assert_eq!(checksum(&LINE2[..68]), 7);
+    // sums past 16 bits
+    for length in [6_999, 7_000, 7_001, 8_191, 65_536, 100_003] {
+        assert_eq!(checksum(&vec![b'9'; length]) as usize, 9 * length % 10);
+        assert_eq!(checksum(&vec![b'-'; length]) as usize, length % 10);
+    }
 }
 
 #[test]

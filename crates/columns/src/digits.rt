@@ -17,14 +17,16 @@ pub fn digit(b: u8) -> u64
     0
 }
 
-// What a byte adds to the checksum.
-fn weight(b: u8) -> u64
+// What one byte of a line adds to its checksum: a digit adds itself, a minus sign adds 1, and anything
+// else adds nothing.
+pub fn weight(b: u8) -> u64
     ensures { λ r. ⌜ (r ≡ weightOf b) × (r ≤ 9) ⌝ }
 {
-    if b == b'-' {
-        return 1;
+    match b {
+        b'0'..=b'9' => (b - b'0') as u64,
+        b'-' => 1,
+        _ => 0,
     }
-    digit(b)
 }
 
 // The sum of what the bytes add: of 7,000 bytes, at most 9 each, it fits 16 bits, and the machine can

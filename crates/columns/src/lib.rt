@@ -9,4 +9,5 @@ mod three;
 pub use catalogue::first_place;
 pub use digits::checksum;
 pub use digits::digit;
+pub use digits::weight;
 pub use layout::agreeing;

@@ -2,7 +2,9 @@
 // below (lent_pairs, lent_opening, lent_requests) under an exported name. A satellite lies in memory that
 // the caller lends (crate storage). include/saddlekerf.h has the same for C.
 ghost use mathlib.Core.Path.{_≡_};
+ghost use Prim.Native.Nat.{_%_};
 ghost use lib.ListN.{length};
+ghost use Rattle.columns.specs.Sum.{sum};
 ghost use Rattle.tle.specs.Read.{readOf};
 ghost use Rattle.text.specs.Output.{fronted};
 ghost use Rattle.listing.specs.Listing as T;
@@ -17,6 +19,7 @@ ghost use Rattle.lent_pairs.specs.Roster.{lodgingAnswer, withdrawalAnswer};
 ghost use Rattle.lent_opening.specs.Opening as O;
 ghost use Rattle.lent_requests.specs.Requests as R;
 ghost use Rattle.saddlekerf.specs.Version.{version, boundary};
+use columns::checksum;
 use lent_opening::open_held;
 use lent_pairs::epoch_answer;
 use lent_pairs::lodge_answer;
@@ -52,6 +55,14 @@ pub extern "C" fn saddlekerf_read(line1: &[u8], line2: &[u8]) -> u64
     ensures { λ r. ⌜ r ≡ P.readingAnswer (readOf (now (line1 .entry)) (now (line2 .entry))) ⌝ }
 {
     read_answer(line1, line2)
+}
+
+// The checksum digit of any bytes, 0 to 9: of the first 68 of a line, what its last column has to be.
+#[no_mangle]
+pub extern "C" fn saddlekerf_checksum(bytes: &[u8]) -> u64
+    ensures { λ r. ⌜ r ≡ sum (now (bytes .entry)) % 10 ⌝ }
+{
+    checksum(bytes)
 }
 
 // The listing of a pair, or of its refusal, at the front of `out`; 17 where that is too short.
