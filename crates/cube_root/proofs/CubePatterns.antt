@@ -1,19 +1,20 @@
--- `mant` and `power` take a normal number apart. Assumes nothing.
+-- From a normal number's bit pattern to the digits that its cube root is found from, and from the root's digits back to a value. Assumes nothing.
 use mathlib.Core.Path.{_≡_, refl, sym, ap, _∙_, subst}
-use Prim.Native.Nat.{ℕ, zero, suc, _+_, _*_, _/_, _%_, _^_, _≤_, _<_}
-use native.Mathlib.Nat.{le-trans, le-of-eq, le-of-lt, le-add-right, not-le-of-lt, lt-irrefl, mul-assoc, mul-comm, mul-left-comm, mul-right-comm, mul-one, one-mul, mul-le-mul, mul-le-mul-left, mul-le-mul-right, le-of-mul-le-mul-right, pow-suc, div-add-mod', mod-lt, zero-lt-suc}
+use Prim.Native.Nat.{ℕ, zero, suc, _+_, _-_, _*_, _/_, _%_, _^_, _≤_, _<_}
+use native.Mathlib.Nat.{le-trans, le-of-eq, le-of-lt, not-le-of-lt, lt-irrefl, add-comm, mul-assoc, mul-comm, mul-left-comm, one-mul, mul-le-mul-right, le-of-mul-le-mul-right, pow-suc, div-add-mod', mod-lt, zero-lt-suc}
 use native.Mathlib.Omega.{arith}
 use mathlib.Core.Bool.{Bool, true, false, not, _&&_, _||_, false≢true}
-use lib.IntN.{ℤ, negsuc}
-use lib.Dec.{T, ltb, eqb, ltb→lt, eqb→eq, lit≤}
-use lib.Arith.{digits-div, digits-mod}
-use lib.Pow.{pow-add, pow-pos, pow-mono}
-use lib.Ieee.{Float, nan, inf, fin, binary64, up, down, fits, lt, le, eq, isNan, toBits, ofBits}
+use lib.Dec.{T, ltb, eqb, ltb→lt, nltb→le, eqb→eq}
+use lib.Pow.{pow-add, pow-pos}
+use lib.Ieee.{Float, nan, inf, fin, binary64, up, down, minus, odd, fits, le, isNan, toBits, ofBits}
 use lib.Ieee.Fits.{down-pos, and-l, and-r}
-use lib.Ieee.Exact.{HasValue}
-use Rattle.cube_root.specs.Cube.{mant, power, normal}
-use Rattle.cube_root.specs.Claims.{CubeScaled}
-use Rattle.floats.proofs.Patterns.{H, rescale, regroup, read-value, normal-value, subnormal-value, finite-bits}
+use lib.Ieee.Exact.{HasValue, odd-sign}
+use lib.Ieee.Bits.{ofBits-fits}
+use Rattle.cube_root.specs.Cube.{nearCube, field, digits, normal, cbrtNormal, cbrtOf}
+use Rattle.cube_root.specs.Claims.{NearestCubeRoot}
+use Rattle.floats.proofs.Patterns.{H, rescale, read, normal-value, subnormal-value, finite-bits}
+use Rattle.floats.proofs.Branch.{yes}
+use Rattle.cube_root.proofs.CubeLaws.{scaled, Shifted, shifted, near-range, near-scaled}
 
 pub no-nan : (x : Float) → normal x ≡ true → T (not (isNan x))
 unfolding normal isNan le
@@ -53,62 +54,116 @@ normal-field (fin false m e) f h = (too-small, finite-bits m e f)
         le-trans (le-of-eq (mul-comm H (down e) ∙ ap (λ (y : ℕ). y * H) (sym (one-mul (down e))))) (le-trans (mul-le-mul-right H g) (le-of-eq (mul-assoc (m * up e) (2 ^ 1022) (2 ^ 52) ∙ v))) in
         not-le-of-lt (mod-lt (toBits binary64 (fin false m e)) (zero-lt-suc 4503599627370495)) (le-of-mul-le-mul-right i (down-pos e))
 
--- ---- x is m times 8 to the k
+-- ---- a root of 53 digits, or 2 ^ 53, packed
+one-more : (E : ℕ) → odd 53 false H (suc E) 1074 ≡ odd 53 false 9007199254740992 E 1074
+unfolding odd
+one-more E = let e : suc E + 52 ≡ E + 53 = omega arith in ap (λ (k : ℕ). fin false 1 (minus k 1074)) e
+
+pub packed-root : (E q : ℕ) → E < 2000 → H ≤ q → q ≤ 9007199254740992 → ofBits binary64 (E * H + q) ≡ odd 53 false q E 1074
+packed-root E q h lo hi = go (ltb q 9007199254740992) (ltb→lt q 9007199254740992) (nltb→le q 9007199254740992)
+  where
+    go : (b : Bool) → (T b → q < 9007199254740992) → (T (not b) → 9007199254740992 ≤ q) → ofBits binary64 (E * H + q) ≡ odd 53 false q E 1074
+    go true y n =
+        let l = y tt in
+        let u : E * H + q ≡ suc E * H + (q - H) = omega arith in
+        let v : H + (q - H) ≡ q = omega arith in
+        ap (λ (z : ℕ). ofBits binary64 z) u ∙ read E (q - H) (omega arith) (omega arith) ∙ ap (λ (z : ℕ). odd 53 false z E 1074) v
+    go false y n =
+        let l = n tt in
+        let u : E * H + q ≡ suc (suc E) * H + 0 = omega arith in
+        let v : 9007199254740992 ≡ q = omega arith in
+        ap (λ (z : ℕ). ofBits binary64 z) u ∙ read (suc E) 0 (omega arith) (zero-lt-suc 4503599627370495) ∙ one-more E ∙ ap (λ (z : ℕ). odd 53 false z E 1074) v
+
+module _ (x : Float) (f : T (fits binary64 x)) (h : normal x ≡ true) where
+  b-lt : toBits binary64 x < 2047 * H
+  b-lt = normal-field x f h .1
+
+  -- the digits and the field, as the code takes them
+  pub parts : (H ≤ digits x) × (digits x < 9007199254740992) × (field x < 2047)
+  parts = let l = b-lt in let m = mod-lt (toBits binary64 x) (zero-lt-suc 4503599627370495) in (omega arith, omega arith, omega arith)
+
+  abbrev a : ℕ
+  a = digits x * 2 ^ (field x % 3)
+
+  inside : Shifted (digits x) (field x % 3)
+  inside = shifted (digits x) (field x % 3) (parts .0) (parts .1) (mod-lt (field x) (zero-lt-suc 2))
+
+  range : (H ≤ nearCube (scaled a)) × (nearCube (scaled a) ≤ 9007199254740992)
+  range = near-range a (inside .long) (inside .short)
+
+  root-is : cbrtOf x ≡ odd 53 false (nearCube (scaled a)) (field x / 3 + 681) 1074
+  unfolding cbrtOf cbrtNormal
+  root-is = sym (yes (normal x) (cbrtNormal x) nan h)
+
+  pub packed-is : (r : ℕ) → r ≡ (field x / 3 + 681) * H + nearCube (scaled a) → ofBits binary64 r ≡ cbrtOf x
+  packed-is r p =
+      let l = b-lt in
+      ap (λ (z : ℕ). ofBits binary64 z) p ∙ packed-root (field x / 3 + 681) (nearCube (scaled a)) (omega arith) (range .0) (range .1) ∙ sym root-is
+
+  pub root-fits : T (fits binary64 (cbrtOf x))
+  root-fits =
+      let r = (field x / 3 + 681) * H + nearCube (scaled a) in
+      subst (λ (y : Float). T (fits binary64 y)) (packed-is r refl) (ofBits-fits binary64 r)
+
+-- ---- the root of every positive normal value is the nearest
 eight : (k : ℕ) → 8 ^ k ≡ 2 ^ (k * 3)
 eight zero = refl
 eight (suc k) =
     let e : k * 3 + 3 ≡ suc k * 3 = omega arith in
     pow-suc 8 k ∙ ap (λ (y : ℕ). y * 8) (eight k) ∙ sym (pow-add 2 (k * 3) 3) ∙ ap (λ (y : ℕ). 2 ^ y) e
 
-at-most-four : (r : ℕ) → r < 3 → 2 ^ r ≤ 4
-at-most-four r h = pow-mono {j = 2} (omega arith)
+shuffle : (m P R Q A B : ℕ) → P * 2 ≡ R * Q → m * P * (2 * (A * B)) ≡ m * R * A * Q * B
+shuffle m P R Q A B e =
+    let a : m * P * (2 * (A * B)) ≡ m * (P * 2) * (A * B) = simp mul-assoc in
+    let b : m * (R * Q) * (A * B) ≡ m * R * A * Q * B = simp (mul-assoc, mul-comm, mul-left-comm) in
+    a ∙ ap (λ (y : ℕ). m * y * (A * B)) e ∙ b
 
-scaled-at : (x : Float) (E t : ℕ) → T (fits binary64 x) → toBits binary64 x ≡ suc E * H + t → suc E < 2047 → t < H → CubeScaled x
-unfolding mant power
-scaled-at x E t f b h l =
-    let d : toBits binary64 x / H ≡ suc E = ap (λ (z : ℕ). z / H) b ∙ digits-div (suc E) l in
-    let e : toBits binary64 x / H % 2048 ≡ suc E = omega arith in
-    let o : toBits binary64 x % H ≡ t = ap (λ (z : ℕ). z % H) b ∙ digits-mod (suc E) l in
-    let r = suc E % 3 in
-    let k = suc E / 3 in
-    let r-lt : r < 3 = mod-lt (suc E) (zero-lt-suc 2) in
-    let whole : r + k * 3 ≡ E + 1 = omega (arith, div-add-mod' (suc E) 3) in
-    let four = at-most-four r r-lt in
-    let M = (H + t) * 2 ^ r in
-    let m-is : (1023 + toBits binary64 x / H % 2048 % 3) * H + toBits binary64 x % H ≡ suc (1022 + r) * H + t =
-    ap (λ (z : ℕ). (1023 + z % 3) * H + toBits binary64 x % H) e ∙ ap (λ (z : ℕ). (1023 + r) * H + z) o ∙ omega arith in
-    let p-is : (682 + toBits binary64 x / H % 2048 / 3) * H ≡ suc (681 + k) * H + 0 = ap (λ (z : ℕ). (682 + z / 3) * H) e ∙ omega arith in
-    let small : (H + t) * 2 ^ r ≤ (H + t) * 4 = mul-le-mul-left (H + t) four in
-    record {
-      M = M;
-      i = k;
-      mantissa =
-          subst (λ (z : ℕ). HasValue (ofBits binary64 z) false M (2 ^ 52)) (sym m-is)
-          (rescale (ofBits binary64 (suc (1022 + r) * H + t)) false ((H + t) * 2 ^ (1022 + r)) (2 ^ 1074) M (2 ^ 52) (pow-pos 1074)
-          (ap (λ (y : ℕ). (H + t) * y * 2 ^ 52) (pow-add 2 1022 r) ∙ regroup (H + t) (2 ^ 1022) (2 ^ r) (2 ^ 52))
-          (read-value (1022 + r) t (omega arith) l));
-      from-one = le-trans (le-of-eq (sym (mul-one H))) (mul-le-mul (le-add-right H t) (pow-pos r));
-      below-eight = omega arith;
-      two-to-k =
-          subst (λ (z : ℕ). HasValue (ofBits binary64 z) false (2 ^ k) (2 ^ 341)) (sym p-is)
-          (rescale (ofBits binary64 (suc (681 + k) * H + 0)) false (H * 2 ^ (681 + k)) (2 ^ 1074) (2 ^ k) (2 ^ 341) (pow-pos 1074)
-          (ap (λ (y : ℕ). H * y * 2 ^ 341) (pow-add 2 681 k) ∙ regroup H (2 ^ 681) (2 ^ k) (2 ^ 341) ∙ mul-right-comm H (2 ^ k) (2 ^ 1022) ∙ mul-comm (2 ^ 1074) (2 ^ k))
-          (read-value (681 + k) 0 (omega arith) (zero-lt-suc 4503599627370495)));
-      number =
-          rescale x false ((H + t) * 2 ^ E) (2 ^ 1074) (M * 8 ^ k) (2 ^ 52 * 8 ^ 341) (pow-pos 1074)
-          (mul-assoc (H + t) (2 ^ E) (2 ^ 1075)
-          ∙ ap (λ (y : ℕ). (H + t) * y) (sym (mul-assoc (2 ^ E) 2 (2 ^ 1074)) ∙ ap (λ (y : ℕ). y * 2 ^ 1074) (sym (pow-add 2 E 1) ∙ ap (λ (y : ℕ). 2 ^ y) (sym whole) ∙ pow-add 2 r (k * 3) ∙ ap (λ (y : ℕ). 2 ^ r * y) (sym (eight k))))
-          ∙ sym (mul-assoc (H + t) (2 ^ r * 8 ^ k) (2 ^ 1074))
-          ∙ ap (λ (y : ℕ). y * 2 ^ 1074) (sym (mul-assoc (H + t) (2 ^ r) (8 ^ k))))
-          (normal-value x f E t b h l);
-    }
+module _ (x : Float) (f : T (fits binary64 x)) (h : normal x ≡ true) (E : ℕ) (i : field x ≡ suc E) where
+  abbrev N : ℕ
+  N = scaled (digits x * 2 ^ (field x % 3))
 
-pub cube-scaled : (x : Float) → T (fits binary64 x) → normal x ≡ true → CubeScaled x
-cube-scaled x f h = go (toBits binary64 x / H) refl
+  abbrev j : ℕ
+  j = field x / 3
+
+  powers : 2 ^ E * 2 ≡ 2 ^ (field x % 3) * 8 ^ j
+  powers =
+      let w : E + 1 ≡ field x % 3 + j * 3 = omega (arith, div-add-mod' (field x) 3) in
+      sym (pow-add 2 E 1) ∙ ap (λ (y : ℕ). 2 ^ y) w ∙ pow-add 2 (field x % 3) (j * 3) ∙ ap (λ (y : ℕ). 2 ^ (field x % 3) * y) (sym (eight j))
+
+  value : HasValue x false (digits x * 2 ^ E) (2 ^ 1074)
+  value =
+      let t = toBits binary64 x % H in
+      let l = parts x f h .2 in
+      let m = mod-lt (toBits binary64 x) (zero-lt-suc 4503599627370495) in
+      subst (λ (y : ℕ). HasValue x false (y * 2 ^ E) (2 ^ 1074)) (add-comm H t)
+      (normal-value x f E t (sym (div-add-mod' (toBits binary64 x) H) ∙ ap (λ (y : ℕ). y * H + t) i) (omega arith) m)
+
+  nearest-at : NearestCubeRoot x (cbrtOf x)
+  nearest-at =
+      let q = nearCube N in
+      let g = range x f h in
+      let k = inside x f h in
+      let n = near-scaled (digits x * 2 ^ (field x % 3)) (k .long) (k .short) in
+      record {
+        N = N;
+        q = q;
+        j = j;
+        whole = mul-le-mul-right 20282409603651670423947251286016 (k .long);
+        number = rescale x false (digits x * 2 ^ E) (2 ^ 1074) (N * 8 ^ j) (2 ^ 1179) (pow-pos 1074) (shuffle (digits x) (2 ^ E) (2 ^ (field x % 3)) (8 ^ j) (2 ^ 104) (2 ^ 1074) powers) value;
+        root =
+            subst (λ (y : Float). HasValue y false (q * 2 ^ j) (2 ^ 393)) (sym (root-is x f h))
+            (rescale (odd 53 false q (j + 681) 1074) false (q * 2 ^ (j + 681)) (2 ^ 1074) (q * 2 ^ j) (2 ^ 393) (pow-pos 1074)
+            (ap (λ (y : ℕ). q * y * 2 ^ 393) (pow-add 2 j 681) ∙ ap (λ (y : ℕ). y * 2 ^ 393) (sym (mul-assoc q (2 ^ j) (2 ^ 681))) ∙ mul-assoc (q * 2 ^ j) (2 ^ 681) (2 ^ 393))
+            (odd-sign 53 false q (j + 681) 1074));
+        long = g .0;
+        short = g .1;
+        above = n .0;
+        below = n .1;
+      }
+
+pub nearest-cube-root : (x : Float) → T (fits binary64 x) → normal x ≡ true → NearestCubeRoot x (cbrtOf x)
+nearest-cube-root x f h = go (field x) refl
   where
-    go : (e : ℕ) → toBits binary64 x / H ≡ e → CubeScaled x
+    go : (e : ℕ) → field x ≡ e → NearestCubeRoot x (cbrtOf x)
     go zero i = absurd (normal-field x f h .0 i)
-    go (suc E) i =
-        let b = toBits binary64 x in
-        let l = normal-field x f h .1 in
-        scaled-at x E (b % H) f (sym (div-add-mod' b H) ∙ ap (λ (y : ℕ). y * H + b % H) i) (omega arith) (mod-lt b (zero-lt-suc 4503599627370495))
+    go (suc E) i = nearest-at x f h E i

@@ -1,2 +1,4 @@
 pub mod Theorems
+mod CubeLaws
 mod CubePatterns
+mod CubeNearest

@@ -1,40 +1,34 @@
--- "Cube root of a positive normal number: m times 8 to the k, 1 ≤ m < 8; start at 1 + (m-1)/7; eight times replace y by (y + y + m/(y*y))/3; times 2 to the k.
--- Other inputs give NaN." Definitions only. That m and k are so is `cube-scaling` of proofs/Theorems.
+-- "For positive normal input, the nearest f64, shown by comparing cubes of whole numbers (a tie cannot occur for a 53-bit input). Other inputs still give NaN." Definitions only.
+-- A positive normal x is m * 2 ^ field / 2 ^ 1075 for an m of 53 binary digits. With field = 3 * k + r its root is ∛N * 2 ^ k / 2 ^ 393, where N is m * 2 ^ r * 2 ^ 104
+-- and has 157 to 159 binary digits. ∛N then has 53 before the point, all that the format keeps, and is no whole number and a half: no tie exists (proofs/Theorems).
 use Prim.Native.Nat.{ℕ, zero, suc, _+_, _*_, _/_, _%_, _^_}
-use mathlib.Core.Bool.{Bool, true, false, cond, _&&_}
+use mathlib.Core.Bool.{Bool, false, cond, _&&_}
 use lib.IntN.{negsuc}
-use lib.Ieee.{Float, nan, inf, fin, binary64, ofBits, toBits, lt, le}
-use Rattle.floats.specs.Notation.{_⊕_, _⊖_, _⊗_, _⊘_, dec}
+use lib.Dec.{leb, ltb}
+use lib.Ieee.{Float, nan, inf, fin, binary64, odd, toBits, lt, le}
 
--- x's exponent field, which is 1023 more than its exponent, and its field of digits
+abbrev pub cube : ℕ → ℕ
+cube n = n * n * n
+
+-- the whole part of the cube root of an n below 8 ^ k, digit by digit
+unfoldable pub icbrt : ℕ → ℕ → ℕ
+icbrt zero n = 0
+icbrt (suc k) n = let r = 2 * icbrt k (n / 8) in cond (leb (cube (r + 1)) n) (r + 1) r
+
+-- the whole number nearest to the cube root of an n below 8 ^ 53: ∛n is above r + 1/2 exactly where 8 * n is above the cube of 2 * r + 1
+unfoldable pub nearCube : ℕ → ℕ
+nearCube n = let r = icbrt 53 n in cond (ltb (cube (2 * r + 1)) (8 * n)) (r + 1) r
+
+-- a positive normal x's exponent field, which is 1023 more than its exponent, and its 53 digits
 abbrev pub field : Float → ℕ
-field x = toBits binary64 x / 2 ^ 52 % 2048
+field x = toBits binary64 x / 2 ^ 52
 
 abbrev pub digits : Float → ℕ
-digits x = toBits binary64 x % 2 ^ 52
+digits x = toBits binary64 x % 2 ^ 52 + 2 ^ 52
 
--- m. As 1023 is 3 * 341, k is field / 3 - 341, and m has x's digits at the exponent field % 3.
-unfoldable pub mant : Float → Float
-mant x = ofBits binary64 ((1023 + field x % 3) * 2 ^ 52 + digits x)
-
--- 2 to the k
-unfoldable pub power : Float → Float
-power x = ofBits binary64 ((682 + field x / 3) * 2 ^ 52)
-
-unfoldable pub startOf : Float → Float
-startOf m = dec 1 0 ⊕ (m ⊖ dec 1 0) ⊘ dec 7 0
-
-unfoldable pub stepOf : Float → Float → Float
-stepOf m y = (y ⊕ y ⊕ m ⊘ (y ⊗ y)) ⊘ dec 3 0
-
--- n steps
-unfoldable pub steps : ℕ → Float → Float
-unfolding stepOf startOf
-steps zero m = startOf m
-steps (suc n) m = stepOf m (steps n m)
-
+-- with q the whole number nearest to ∛N the root is q * 2 ^ (k + 681) / 2 ^ 1074
 unfoldable pub cbrtNormal : Float → Float
-cbrtNormal x = steps 8 (mant x) ⊗ power x
+cbrtNormal x = odd 53 false (nearCube (digits x * 2 ^ (field x % 3) * 2 ^ 104)) (field x / 3 + 681) 1074
 
 -- from 2 ^ -1022 on, and finite
 unfoldable pub normal : Float → Bool

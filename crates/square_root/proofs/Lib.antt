@@ -1,3 +1,4 @@
 pub mod Theorems
+pub mod Moved
 mod RootLaws
 mod RootPatterns

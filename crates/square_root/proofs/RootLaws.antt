@@ -5,7 +5,6 @@ use native.Mathlib.Nat.{le-trans, le-of-eq, le-of-lt, le-antisymm, lt-of-not-le,
 use native.Mathlib.Omega.{arith}
 use mathlib.Core.Bool.{Bool, true, false, not, cond}
 use lib.Dec.{T, leb, ltb, leb→le, nleb→lt, ltb→lt, nltb→le, lit≤, lit<}
-use mir.Val.{boolByte}
 use Rattle.square_root.specs.Root.{isqrt, nearRoot}
 
 pub sq-mono : {a b : ℕ} → a ≤ b → a * a ≤ b * b
@@ -257,14 +256,3 @@ module _ (a c : ℕ) (lo : 4503599627370496 ≤ a) (hi : a ≤ 18014398509481982
       let v = lo26 c * lo26 c + 18014398509481984 in
       let d = left a c * 67108864 in
       pick (ltb (v + c) d) (leb (d + c) v) (ltb→lt (v + c) d) (nltb→le (v + c) d) (leb→le (d + c) v) (nleb→lt (d + c) v)
-
--- ---- one up, one down, without a branch
-pub byte-le : (b : Bool) → boolByte b ≤ 1
-byte-le true = omega arith
-byte-le false = omega arith
-
-pub moved : (up down : Bool) (c : ℕ) → (T up → T down → ⊥) → c + boolByte up - boolByte down ≡ cond up (c + 1) (cond down (c - 1) c)
-moved true true c n = absurd (n tt tt)
-moved true false c n = omega arith
-moved false true c n = omega arith
-moved false false c n = omega arith

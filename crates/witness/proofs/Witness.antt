@@ -6,7 +6,7 @@ use mathlib.Core.Bool.{true}
 use lib.Ieee.{round, neg, add, sub, mul, div, rem, lt, le, eq, ne, ofBits, toBits}
 use Rattle.elementary.specs.Notation.{finite}
 use Rattle.elementary.specs.Root.{isqrt, nearRoot, unitsIn, rootOf, sqrtOf}
-use Rattle.elementary.specs.Cube.{mant, power, steps, cbrtNormal, normal, cbrtOf}
+use Rattle.elementary.specs.Cube.{icbrt, nearCube, cbrtNormal, normal, cbrtOf}
 use Rattle.elementary.specs.Power.{pow23, pow35, absOf}
 use Rattle.elementary.specs.Trig.{turned, wrapped, folded, signed, sinPoly, cosPoly, sinOf, cosOf}
 use Rattle.elementary.specs.Angle.{halved, series, arctan, quarter, placed, atan2Of}
@@ -70,7 +70,7 @@ unfolding kindIn irez integratorOf integratorBy
     bodyFinite.finiteRates bodyFinite.finiteLunarSolar bodyFinite.finitePeriodics
     dsinitOf dsinitFrom aonvOf kindOf oneDay halfDay oneDayOf halfDayOf inclinedOf lowOf g520Of highOf halfDaySum thetaOf startOf oneDayStart halfDayStart
     finiteIntegrator finiteKind finiteOneDay finiteHalfDay
-    sinOf cosOf sinPoly cosPoly turned wrapped folded signed sqrtOf rootOf unitsIn nearRoot isqrt cbrtOf cbrtNormal normal mant power steps pow23 pow35 absOf atan2Of placed quarter arctan series halved
+    sinOf cosOf sinPoly cosPoly turned wrapped folded signed sqrtOf rootOf unitsIn nearRoot isqrt cbrtOf cbrtNormal normal nearCube icbrt pow23 pow35 absOf atan2Of placed quarter arctan series halved
     finite round neg add sub mul div rem lt le eq ne ofBits toBits
 computed = (refl, refl)
 

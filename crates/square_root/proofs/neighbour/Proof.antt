@@ -2,7 +2,7 @@ use Prim.Native.Nat.{_+_, _≤_, _<_}
 use native.Mathlib.Omega.{arith}
 use lib.Dec.{T, leb, ltb, ltb→lt, leb→le}
 use borrow.Author.Needs.{needs}
-use Rattle.square_root.proofs.RootLaws.{byte-le, moved}
+use Rattle.square_root.proofs.Moved.{byte-le, moved}
 use Rattle.square_root.proofs.neighbour.Statement.{statement}
 use Rattle.square_root.proofs.neighbour.Tie as tie
 
