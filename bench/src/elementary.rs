@@ -1,6 +1,7 @@
 //! The elementary functions, in two modes.
 //!
-//! [`Document`] is document 01, "Numbers the model rests on", bit for bit.
+//! [`Document`] is document 01, "Numbers the model rests on", bit for bit, with
+//! the cube root of document 02, wish 6.
 //! [`Libm`] is the system's mathematical library and the processor's square
 //! root: what an ordinary port of 002 uses. Only the first is the law; the
 //! second is here to be timed, and to show how far apart the two lie.
@@ -129,20 +130,45 @@ fn power_of_two(k: i32) -> f64 {
     f64::from_bits(((k + 1023) as u64) << 52)
 }
 
-/// The cube root of a positive normal number; NaN for any other.
+/// The nearest f64 to the cube root of a positive normal number; NaN for any other.
 pub fn cube_root(x: f64) -> f64 {
     if !(x.is_normal() && x > 0.0) {
         return f64::NAN;
     }
-    // x = m * 8^k, 1 <= m < 8.
-    let exponent = (x.to_bits() >> 52) as i32 - 1023;
-    let k = exponent.div_euclid(3);
-    let m = f64::from_bits(x.to_bits() & ((1 << 52) - 1) | ((exponent - 3 * k + 1023) as u64) << 52);
-    let mut y = 1.0 + (m - 1.0) / 7.0;
-    for _ in 0..8 {
-        y = (y + y + m / (y * y)) / 3.0;
+    nearest_cube_root(x, x.cbrt())
+}
+
+/// The nearest f64 to the cube root of a positive normal x, from a guess that
+/// is less than 2^12 f64s away from it. The system's is, whatever its bits.
+///
+/// x is `a * 8^k / 2^1075` for a whole a of 53 to 55 bits. With n for `a * 2^104`
+/// its root is that of n times `2^k / 2^393`, and has 53 bits before the point.
+/// So the nearest f64 is y times that, for the whole y with
+/// `(2y - 1)^3 < 8n < (2y + 1)^3`. `8n` is even and the cubes are odd: no tie.
+///
+/// These numbers have up to 162 bits. But where z is within 2^14 of the cube root
+/// of 8n, both are below 2^54 + 2^14, and `z^3` is within `3 * 2^14 * 2^109` of
+/// `8n`. That is below 2^127: so their difference modulo 2^128, read as a signed
+/// number, is the difference.
+fn nearest_cube_root(x: f64, guess: f64) -> f64 {
+    let field = x.to_bits() >> 52;
+    let digits = x.to_bits() & ((1 << 52) - 1) | 1 << 52;
+    let eight_n = u128::from(digits << (field % 3)) << 107;
+    let is_below = |z: u64| {
+        let z = u128::from(z);
+        eight_n.wrapping_sub((z * z).wrapping_mul(z)) as i128 > 0
+    };
+    // The pattern of y times 2^k / 2^393 is `base + y`, for y = 2^53 too. A guess
+    // below 2^52 is less than 2^12 of shorter steps below it.
+    let base = (field / 3 + 681) << 52;
+    let mut y = guess.to_bits() - base;
+    while is_below(2 * y + 1) {
+        y += 1;
     }
-    y * power_of_two(k)
+    while !is_below(2 * y - 1) {
+        y -= 1;
+    }
+    f64::from_bits(base + y)
 }
 
 const fn factorial(n: u32) -> f64 {
@@ -352,6 +378,41 @@ mod tests {
             check(x);
             check(f64::from_bits(x.to_bits() + 1));
             check(f64::from_bits(x.to_bits() - 1));
+        }
+    }
+
+    /// z cubed, in 64 bits and all above them.
+    fn cubed(z: u64) -> (u128, u64) {
+        let z = u128::from(z);
+        let low = (z * z & u128::from(u64::MAX)) * z;
+        ((z * z >> 64) * z + (low >> 64), low as u64)
+    }
+
+    /// Whichever guess it starts from, the cube root is the nearest, by cubes of all 162 bits.
+    #[test]
+    fn cube_root_is_nearest() {
+        let mut random = Random::new(162);
+        let check = |x: f64, off: i64| {
+            let root = nearest_cube_root(x, f64::from_bits(x.cbrt().to_bits().wrapping_add_signed(off)));
+            let field = x.to_bits() >> 52;
+            let y = root.to_bits() - ((field / 3 + 681) << 52);
+            let digits = x.to_bits() & ((1 << 52) - 1) | 1 << 52;
+            let eight_n = (u128::from(digits << (field % 3)) << 43, 0);
+            assert!(1 << 52 <= y && y <= 1 << 53, "{x:e}");
+            assert!(cubed(2 * y - 1) < eight_n && eight_n < cubed(2 * y + 1), "{x:e}");
+        };
+        for exponent in 1..2047u64 {
+            for off in [-4000, -1, 0, 1, 4000] {
+                check(f64::from_bits(exponent << 52), off);
+                check(f64::from_bits((exponent << 52) + 1), off);
+                check(f64::from_bits(exponent << 52 | ((1 << 52) - 1)), off);
+            }
+        }
+        for _ in 0..200_000 {
+            let x = f64::from_bits(random.next_u64() >> 1);
+            if x.is_normal() {
+                check(x, (random.next_u64() % 8001) as i64 - 4000);
+            }
         }
     }
 

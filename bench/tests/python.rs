@@ -1,9 +1,9 @@
 //! The port against the Python programs in tests/, written apart from it: the
 //! reader of two-line sets over whole and damaged pairs, the arithmetic on
-//! instants, and the sine and cosine of large angles. Two independent readings of document 01 have to agree before the
-//! proved code is held against either.
+//! instants, the sine and cosine of large angles, and the cube root. Two independent readings of the
+//! documents have to agree before the proved code is held against either.
 
-use port::elementary::{Document, Elementary};
+use port::elementary::{cube_root, Document, Elementary};
 use port::generate;
 use port::instant;
 use port::random::Random;
@@ -150,9 +150,21 @@ fn large_angles() {
         let result = if words[0] == "sin" { sine } else { cosine };
         assert_eq!(result.to_bits(), number(words[2]).to_bits(), "{line}");
     }
-    // The crate's input is the published vectors and then these.
-    let port = Path::new(env!("CARGO_MANIFEST_DIR"));
-    let stored = std::fs::read_to_string(port.join("../crates/test_elementary/stdin")).unwrap();
-    let published = std::fs::read_to_string(port.join("vectors/elementary.txt")).unwrap();
-    assert_eq!(stored, published + &text);
+}
+
+#[test]
+fn cube_roots() {
+    let text = String::from_utf8(python(&["tests/cube_roots.py"])).unwrap();
+    let mut count = 0;
+    for line in text.lines() {
+        let words: Vec<&str> = line.split(' ').collect();
+        let number = |word: &str| match word {
+            "nan" => f64::NAN,
+            pattern => f64::from_bits(u64::from_str_radix(pattern, 16).unwrap()),
+        };
+        let (result, expected) = (cube_root(number(words[1])), number(words[2]));
+        assert!(result.to_bits() == expected.to_bits() || result.is_nan() && expected.is_nan(), "{line}");
+        count += 1;
+    }
+    assert!(count > 5000, "{count}");
 }

@@ -21,6 +21,16 @@ fn output(command: &mut Command) -> Vec<u8> {
     output.stdout
 }
 
+/// The published vectors, then those of two scripts, to which python.rs holds the port.
+#[test]
+fn test_elementary() {
+    let mut made = stored("bench/vectors/elementary.txt");
+    for script in ["tests/large_angles.py", "tests/cube_roots.py"] {
+        made.extend(output(Command::new("python3").arg(root().join(script))));
+    }
+    assert!(made == stored("crates/test_elementary/stdin"));
+}
+
 #[test]
 fn test_instants() {
     let made = output(Command::new("python3").arg(root().join("tests/instant_cases.py")));

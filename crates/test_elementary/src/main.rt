@@ -65,9 +65,9 @@ fn report_all(failed: &mut bool, input: &[u8]) {
 
 fn main() {
     let mut failed = false;
-    let mut space = io::large_buffer();
+    let mut space = [0u8; 524288];
     let n = streams::read_all(&mut failed, &mut space);
-    if n == 65536 {
+    if n == 524288 {
         print(&mut failed, b"the input is too long\n");
         return;
     }
