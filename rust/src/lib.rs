@@ -11,7 +11,7 @@
 //! let line2 = b"2 00005  34.2682 348.7242 1859667 331.7664  19.3264 10.82419157413667";
 //! let mut satellite = Satellite::open(line1, line2)?;
 //! let state = satellite.at(Microseconds::from_minutes(360))?;
-//! assert_eq!(state.position[0], -7154.031202015703);
+//! assert_eq!(state.position[0], -7154.031202015704);
 //! # Ok(())
 //! # }
 //! ```

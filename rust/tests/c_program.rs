@@ -57,8 +57,8 @@ fn c_example_sees_one_bit() {
     let (program, rows) = (in_tmp("c_example_one_bit"), in_tmp("one-bit-changed.txt"));
     run(&mut compile(&program, &["tests/c_example.c"]));
     let text = std::fs::read_to_string(root().join(ROWS)).unwrap();
-    assert_eq!(text.matches("40199fa29d15d3bf").count(), 1);
-    std::fs::write(&rows, text.replace("40199fa29d15d3bf", "40199fa29d15d3be")).unwrap();
+    assert_eq!(text.matches("40199fa29d15d3bd").count(), 1);
+    std::fs::write(&rows, text.replace("40199fa29d15d3bd", "40199fa29d15d3bc")).unwrap();
     let output = output(Command::new(&program).arg(&rows));
     assert_eq!(output.status.code(), Some(1));
     // Once in the single request and once in the list.
