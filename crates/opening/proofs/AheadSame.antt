@@ -10,12 +10,9 @@ use Rattle.satellite.specs.declared.Model.{Model}
 use Rattle.near_earth.specs.declared.parts.Initl.{Initl}
 use Rattle.near_earth.specs.Initl.{guard, deepSpace}
 use Rattle.near_earth.specs.Sgp4init.{recovered, filled, zeroed, nearEarth}
-use Rattle.lunar_solar.specs.declared.dscom.Common.{Common}
-use Rattle.lunar_solar.specs.Dscom.{shapeOf, dscomFrom, dscomOf}
-use Rattle.lunar_solar.specs.Dsinit.{secularOf}
-use Rattle.resonance_terms.specs.Dsinit.{aonvOf, dsinitFrom, dsinitOf}
+use Rattle.lunar_solar.specs.Dscom.{dscomOf}
 use Rattle.opening.specs.declared.ahead.Ahead.{Ahead}
-use Rattle.opening.specs.DeepSpace.{tc, common, setUp, orbit, atEpoch, deepSpaceOf}
+use Rattle.opening.specs.DeepSpace.{common, deepSpaceOf}
 use Rattle.opening.specs.Ahead.{aheadOf, deepSpaceFrom}
 use Rattle.opening.specs.Opening.{modelOf}
 
@@ -29,29 +26,19 @@ elements-of : (el : Elements) (i : Initl) (deep : Bool) → nearEarth el i deep 
 unfolding nearEarth
 elements-of el i deep = elements-by (guard i) el i deep
 
-mean-motion : (epoch : Float) (n : NearEarth) (ecco eccsq : Float) → orbit (common epoch n) ecco eccsq .nm ≡ n .elements .no
-unfolding orbit common dscomOf dscomFrom shapeOf
-mean-motion epoch n ecco eccsq = refl
-
-own : (epoch gsto : Float) (n : NearEarth) (eccsq : Float) → deepSpaceFrom (aheadOf epoch (n .elements) (n .elements .no)) epoch gsto n eccsq ≡ deepSpaceOf epoch gsto n eccsq
-unfolding deepSpaceFrom deepSpaceOf aheadOf common dscomOf dsinitOf
-own epoch gsto n eccsq =
-    let c = common epoch n in
-    let x = setUp c n in
-    let s = secularOf c (n .elements .inclo) in
-    ap
-    (λ (nm : Float). record { rates = s; periodics = c .periodics; integrator = dsinitFrom (orbit c (x .ep) eccsq) (aonvOf nm) (atEpoch n x gsto) s tc })
-    (sym (mean-motion epoch n (x .ep) eccsq))
+own : (epoch gsto : Float) (n : NearEarth) (eccsq : Float) → deepSpaceFrom (aheadOf epoch (n .elements)) epoch gsto n eccsq ≡ deepSpaceOf epoch gsto n eccsq
+unfolding deepSpaceFrom deepSpaceOf aheadOf common dscomOf
+own epoch gsto n eccsq = refl
 
 deep-ahead : (el : Elements) (i : Initl) (deep : Bool) (epoch gsto eccsq : Float)
-    → deepSpaceFrom (aheadOf epoch el (i .no)) epoch gsto (nearEarth el i deep) eccsq ≡ deepSpaceOf epoch gsto (nearEarth el i deep) eccsq
+    → deepSpaceFrom (aheadOf epoch el) epoch gsto (nearEarth el i deep) eccsq ≡ deepSpaceOf epoch gsto (nearEarth el i deep) eccsq
 unfolding aheadOf recovered
 deep-ahead el i deep epoch gsto eccsq =
     let n = nearEarth el i deep in
-    ap (λ (e : Elements). deepSpaceFrom (aheadOf epoch e (e .no)) epoch gsto n eccsq) (sym (elements-of el i deep)) ∙ own epoch gsto n eccsq
+    ap (λ (e : Elements). deepSpaceFrom (aheadOf epoch e) epoch gsto n eccsq) (sym (elements-of el i deep)) ∙ own epoch gsto n eccsq
 
 pub deep-model : (el : Elements) (i : Initl) (days gsto : Float) (b : Bool) (a : Ahead) (n : NearEarth) (d : DeepSpace)
-    → b ≡ deepSpace i → b ≡ true → a ≡ aheadOf days el (i .no) → n ≡ nearEarth el i true → d ≡ deepSpaceFrom a days gsto n (i .eccsq)
+    → b ≡ deepSpace i → b ≡ true → a ≡ aheadOf days el → n ≡ nearEarth el i true → d ≡ deepSpaceFrom a days gsto n (i .eccsq)
     → _≡_ {A = Model} (record { near = n; method = method.DeepSpace d }) (modelOf el i days gsto)
 unfolding modelOf
 deep-model el i days gsto b a n d hb ht ha hn hd =

@@ -241,16 +241,22 @@ fn half_day_of(o: Orbit, aonv: f64) -> HalfDay
     half_day_sum(f, g, k, g201, o.nm, aonv)
 }
 
-fn kind_of(o: Orbit, aonv: f64) -> Resonance
-    ensures { λ r. ⌜ r ≡ D.kindOf o aonv ⌝ }
+fn aonv_of(nm: f64) -> f64
+    ensures { λ r. ⌜ r ≡ D.aonvOf nm ⌝ }
+{
+    elementary::two_thirds(nm / wgs72::xke())
+}
+
+fn kind_of(o: Orbit) -> Resonance
+    ensures { λ r. ⌜ r ≡ D.kindOf o ⌝ }
 {
     let nm = o.nm;
     let em = o.em;
     if is_half_day(nm, em) {
-        return Resonance::HalfDay(half_day_of(o, aonv));
+        return Resonance::HalfDay(half_day_of(o, aonv_of(nm)));
     }
     if is_one_day(nm) {
-        return Resonance::OneDay(one_day_of(o, aonv));
+        return Resonance::OneDay(one_day_of(o, aonv_of(nm)));
     }
     Resonance::None
 }
@@ -293,18 +299,11 @@ fn start_of(kind: Resonance, e: Epoch, s: SecularRates, theta: f64) -> Start
     }
 }
 
-// Of the mean motion; it is the longest step of dsinit, and can begin early.
-pub fn aonv_of(nm: f64) -> f64
-    ensures { λ r. ⌜ r ≡ D.aonvOf nm ⌝ }
+// `tc` is 0 at set-up.
+pub fn dsinit(o: Orbit, e: Epoch, s: SecularRates, tc: Minutes) -> Integrator
+    ensures { λ r. ⌜ r ≡ D.dsinitOf o e s (tc .0) ⌝ }
 {
-    elementary::two_thirds(nm / wgs72::xke())
-}
-
-// `aonv` is aonv_of the orbit's mean motion; `tc` is 0 at set-up.
-pub fn dsinit(o: Orbit, aonv: f64, e: Epoch, s: SecularRates, tc: Minutes) -> Integrator
-    ensures { λ r. ⌜ r ≡ D.dsinitFrom o aonv e s (tc .0) ⌝ }
-{
-    let resonance = kind_of(o, aonv);
+    let resonance = kind_of(o);
     let theta = theta_of(Radians(e.gsto), tc);
     let start = start_of(resonance, e, s, theta.0);
     Integrator {
