@@ -43,7 +43,7 @@ unfolding trimmed
 trimmed-within [] = omega arith
 trimmed-within (b ∷ s) = omega (arith, before-within b (trimmed s), trimmed-within s)
 
-designator-within : (d : Designator) → Within (designatorText d) 8
+pub designator-within : (d : Designator) → Within (designatorText d) 8
 unfolding designatorText
 designator-within Blank = record { at-most = omega arith }
 designator-within (Piece launch a b c) = within (five-within launch) (record { at-most = trimmed-within (a ∷ b ∷ c ∷ []) })

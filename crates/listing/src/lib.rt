@@ -53,7 +53,7 @@ fn put_piece(out: &mut [u8], at: usize, a: u8, b: u8, c: u8) -> usize
     put_bytes(out, at, &piece[0..size])
 }
 
-fn put_designator(out: &mut [u8], at: usize, designator: Designator) -> usize
+pub fn put_designator(out: &mut [u8], at: usize, designator: Designator) -> usize
     ensures { λ r. ⌜ Put (now (out .entry)) at (designatorText designator) (now (out .exit)) r ⌝ }
 {
     match designator {
@@ -94,13 +94,19 @@ fn put_signed_line(out: &mut [u8], at: usize, label: &[u8], v: i64) -> usize
     put_byte(out, p, b'\n')
 }
 
-fn put_scaled(out: &mut [u8], at: usize, label: &[u8], v: Scaled) -> usize
+pub fn put_scaled(out: &mut [u8], at: usize, v: Scaled) -> usize
+    ensures { λ r. ⌜ Put (now (out .entry)) at (scaledText v) (now (out .exit)) r ⌝ }
+{
+    let p = put_signed(out, at, v.mantissa);
+    let p = put_byte(out, p, b' ');
+    put_signed(out, p, v.exponent)
+}
+
+fn put_scaled_line(out: &mut [u8], at: usize, label: &[u8], v: Scaled) -> usize
     ensures { λ r. ⌜ Put (now (out .entry)) at (line (now (label .entry)) (scaledText v)) (now (out .exit)) r ⌝ }
 {
     let p = put_bytes(out, at, label);
-    let p = put_signed(out, p, v.mantissa);
-    let p = put_byte(out, p, b' ');
-    let p = put_signed(out, p, v.exponent);
+    let p = put_scaled(out, p, v);
     put_byte(out, p, b'\n')
 }
 
@@ -117,8 +123,8 @@ fn put_fields1(out: &mut [u8], at: usize, r: Record) -> usize
     let p = put_designator_line(out, p, b"designator ", designator);
     let p = put_epoch(out, p, b"epoch ", r.year, r.day);
     let p = put_signed_line(out, p, b"ndot ", r.ndot);
-    let p = put_scaled(out, p, b"nddot ", nddot);
-    let p = put_scaled(out, p, b"bstar ", bstar);
+    let p = put_scaled_line(out, p, b"nddot ", nddot);
+    let p = put_scaled_line(out, p, b"bstar ", bstar);
     let p = put_line(out, p, b"type ", r.ephemeris);
     put_line(out, p, b"set ", r.element)
 }

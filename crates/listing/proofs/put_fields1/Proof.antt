@@ -29,8 +29,8 @@ all c =
     (both (l4 .put-epoch .ensures)
     (both (same (ap (λ z. line (bytes "ndot ") (signed z)) (steady (r .ndot) (record { sfits = omega (arith, l5 .before .struct-told .given) })))
     (l5 .put-signed-line .ensures))
-    (both (l6 .put-scaled .ensures)
-    (both (l7 .put-scaled2 .ensures)
+    (both (l6 .put-scaled-line .ensures)
+    (both (l7 .put-scaled-line2 .ensures)
     (both (l8 .put-line2 .ensures)
     (l9 .put-line3 .ensures))))))))
 
