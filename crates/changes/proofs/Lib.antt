@@ -1,0 +1,4 @@
+pub mod Fields
+pub mod Merge
+pub mod Bounds
+pub mod Buffers

@@ -1,0 +1,4 @@
+pub mod Entry
+pub mod Changes
+pub mod Claims
+pub mod Examples
