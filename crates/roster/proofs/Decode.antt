@@ -21,11 +21,11 @@ use Rattle.roster.proofs.Pairs.{length-pair, place-back, place-sound, p
 use Rattle.roster.proofs.Passes.{ended, paired}
 use Rattle.roster.proofs.Packing.{length-packed}
 
-abbrev places : ℕ → List Record → List ℕ
+abbrev pub places : ℕ → List Record → List ℕ
 places k rs = packed pairBytes 138 k rs
 
 -- the first place, and the others
-one-more : (k : ℕ) (r : Record) (rs : List Record) → places (suc k) (r ∷ rs) ≡ pairBytes r ++ places k rs
+pub one-more : (k : ℕ) (r : Record) (rs : List Record) → places (suc k) (r ∷ rs) ≡ pairBytes r ++ places k rs
 unfolding packed flatMap
 one-more k r rs =
     let e : suc k - suc (length rs) ≡ k - length rs = omega arith in

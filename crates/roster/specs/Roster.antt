@@ -59,3 +59,8 @@ pairsIn (suc k) low b = cond (allZero b) (some []) (followed low (placeOf (take 
 -- the records of a buffer that is a roster
 unfoldable pub rosterOf : List ℕ → Option (List Record)
 rosterOf b = cond (eqb (length b) 8832) (pairsIn 64 0 b) none
+
+-- whether a buffer is no roster, by what was found in it
+abbrev pub isNone : Option (List Record) → Bool
+isNone none = true
+isNone (some rs) = false

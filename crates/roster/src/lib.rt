@@ -7,7 +7,7 @@ ghost use lib.Dec.{ltb};
 ghost use Rattle.tle.specs.Legal.{legal};
 ghost use Rattle.tle.specs.declared.Reading.the-variants as reading;
 ghost use Rattle.roster.specs.Records.{instantOf};
-ghost use Rattle.roster.specs.Roster.{bytesOf, rosterOf};
+ghost use Rattle.roster.specs.Roster.{bytesOf, rosterOf, isNone};
 ghost use Rattle.roster.specs.Calls.{lodgingNumber, withdrawalNumber, answered, lodgedBy, lodgingOf, lodgedOver, withdrawalOf, withdrawnOver};
 use gaps::close_gap;
 use gaps::open_gap;
@@ -113,6 +113,17 @@ fn lodge_record(roster: &mut [u8], r: Record) -> Lodging
             put_pair(roster, at, r);
             Lodging::Lodged
         }
+    }
+}
+
+// Whether the buffer is no roster or has another length.
+pub fn is_no_roster(roster: &[u8]) -> bool
+    ensures { λ x. ⌜ x ≡ isNone (rosterOf (now (roster .entry))) ⌝ }
+{
+    let found = scan(roster, 0);
+    match found {
+        Scanned::Roster(_) => false,
+        Scanned::NoRoster => true,
     }
 }
 
