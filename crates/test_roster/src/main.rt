@@ -12,33 +12,10 @@ use roster::all_zero;
 use roster::clear;
 use roster::lodge;
 use roster::withdraw;
+use step_input::decimal;
 use text::output::put_byte;
 use text::output::put_bytes;
 use text::output::put_line;
-
-fn with_digit(n: u64, b: u8) -> u64 {
-    if b < b'0' {
-        return n;
-    }
-    if b > b'9' {
-        return n;
-    }
-    if n > 1844674407370955160 {
-        return u64::MAX;
-    }
-    n * 10 + (b - b'0') as u64
-}
-
-// A whole number, at most the largest that there is.
-fn decimal(s: &[u8]) -> u64 {
-    let mut n = 0;
-    let mut i = 0;
-    while i < s.len() {
-        n = with_digit(n, s[i]);
-        i += 1;
-    }
-    n
-}
 
 // ---- what is printed
 

@@ -1,8 +1,8 @@
 use Prim.Native.Nat.{_≤_, _-_}
 use lib.ListN.{length}
 use borrow.Author.Needs.{needs}
-use Rattle.test_roster.proofs.decimal.Statement.{statement}
-use Rattle.test_roster.proofs.decimal.Tie as tie
+use Rattle.step_input.proofs.decimal.Statement.{statement}
+use Rattle.step_input.proofs.decimal.Tie as tie
 
 abbrev Inv-loop : tie.InvT-loop
 Inv-loop s n₀ i₀ n i = i ≤ length s
