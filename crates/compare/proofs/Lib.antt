@@ -1,3 +1,4 @@
 mod Places
 mod Turns
 mod Answers
+pub mod Rooms

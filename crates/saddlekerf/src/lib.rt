@@ -10,6 +10,9 @@ ghost use Rattle.text.specs.Output.{fronted};
 ghost use Rattle.listing.specs.Listing as T;
 ghost use Rattle.opening.specs.Opening.{openPairOf};
 ghost use Rattle.record_numbers.specs.Numbers.{givenOf};
+ghost use Rattle.roster.specs.Roster.{rosterOf};
+ghost use Rattle.compare.specs.Compare.{comparedOf, comparedOver};
+ghost use Rattle.lent_changes.specs.Answer.{comparedAnswer};
 ghost use Rattle.roster.specs.Calls.{lodgingOf, lodgedOver, withdrawalOf, withdrawnOver};
 ghost use Rattle.report.specs.Report.{reportOf};
 ghost use Rattle.report.specs.Numbers.{storeRefusal, storedOver};
@@ -20,6 +23,7 @@ ghost use Rattle.lent_opening.specs.Opening as O;
 ghost use Rattle.lent_requests.specs.Requests as R;
 ghost use Rattle.saddlekerf.specs.Version.{version, boundary};
 use columns::checksum;
+use lent_changes::compare_held;
 use lent_opening::open_held;
 use lent_pairs::epoch_answer;
 use lent_pairs::lodge_answer;
@@ -117,6 +121,16 @@ pub extern "C" fn saddlekerf_withdraw(roster: &mut [u8], number: u64) -> u64
     ensures { λ _. ⌜ now (roster .exit) ≡ withdrawnOver (now (roster .entry)) number ⌝ }
 {
     withdraw_answer(roster, number)
+}
+
+// What changed from the first roster to the second, at the front of `out`; 22 with the roster that is none,
+// 1 or 2; 17 where `out` is too short.
+#[no_mangle]
+pub extern "C" fn saddlekerf_changes(first: &[u8], second: &[u8], out: &mut [u8]) -> u64
+    ensures { λ r. ⌜ r ≡ comparedAnswer (comparedOf (rosterOf (now (first .entry))) (rosterOf (now (second .entry))) (length (now (out .entry)))) ⌝ }
+    ensures { λ _. ⌜ now (out .exit) ≡ comparedOver (rosterOf (now (first .entry))) (rosterOf (now (second .entry))) (now (out .entry)) ⌝ }
+{
+    compare_held(first, second, out)
 }
 
 // The report of a whole text, its 17 numbers at the front of `counts` (crate report, specs/Numbers).
