@@ -56,7 +56,8 @@
  *   Every call returns. Only a resonant satellite takes strides: a request at most 7,304 of them (a
  *   time 3,652 days away, some 1.5 ms), a list at most 7,479,296 (1,024 such times, each on the other
  *   side of the epoch than the one before, some 1.5 s). saddlekerf_strides tells how many were taken.
- *   A call on a roster judges all its pairs, some 30 microseconds for 64.
+ *   A call on a roster judges all its pairs, some 30 microseconds for 64; listing what changed between
+ *   two takes some 120.
  *   No function needs more than SADDLEKERF_STACK bytes of stack, beside what memcpy and memset take.
  *
  * VERSIONS
@@ -70,9 +71,11 @@
  *   Every function but the versions and saddlekerf_checksum answers one 64-bit number:
  *
  *     bits  0-7   refusal number, 0 when answered (enum saddlekerf_refusal_number)
- *     bits  8-15  line 1 or 2 (refusals 1-4); rounds of Kepler's equation (saddlekerf_request)
+ *     bits  8-15  line 1 or 2 (refusals 1-4); roster 1 or 2 (refusal 22 of saddlekerf_changes); rounds of
+ *                 Kepler's equation (saddlekerf_request)
  *     bits 16-31  column, counted from 1 (refusal 3); field (refusal 6 of lines)
- *     bits 32-63  bytes written (saddlekerf_print, saddlekerf_write); integrator strides (requests)
+ *     bits 32-63  bytes written (saddlekerf_print, saddlekerf_write, saddlekerf_changes); integrator
+ *                 strides (requests)
  *
  *   What is not named for a function and a refusal is 0. The functions below take an answer apart.
  */
@@ -120,6 +123,8 @@ extern "C" {
 /* Elements of a report (enum saddlekerf_report_number), and the most pairs of its text. */
 #define SADDLEKERF_COUNTS 17
 #define SADDLEKERF_PAIRS_LIMIT 4096
+/* A buffer for saddlekerf_changes that is never too short. */
+#define SADDLEKERF_CHANGES_ROOM 24448
 
 /* Refusal numbers. */
 enum saddlekerf_refusal_number {
@@ -234,6 +239,7 @@ static inline int saddlekerf_environment_is_default(void)
 
 static inline unsigned saddlekerf_refusal(uint64_t answer) { return (unsigned)(answer & 255); }
 static inline unsigned saddlekerf_line(uint64_t answer) { return (unsigned)(answer >> 8 & 255); }
+static inline unsigned saddlekerf_which(uint64_t answer) { return (unsigned)(answer >> 8 & 255); }
 static inline unsigned saddlekerf_rounds(uint64_t answer) { return (unsigned)(answer >> 8 & 255); }
 static inline unsigned saddlekerf_column(uint64_t answer) { return (unsigned)(answer >> 16 & 65535); }
 static inline unsigned saddlekerf_field(uint64_t answer) { return (unsigned)(answer >> 16 & 65535); }
@@ -336,6 +342,25 @@ uint64_t saddlekerf_withdraw(uint8_t *roster, size_t roster_length, uint64_t num
  */
 uint64_t saddlekerf_report(const uint8_t *text, size_t text_length,
                            uint64_t *counts, size_t counts_length);
+/*
+ * Lists what changed from one roster to another, as lines of text by rising catalogue number, each
+ * ended by a newline, with one blank between parts:
+ *
+ *   first PAIR             the 138 bytes of a pair that only the first roster has
+ *   second PAIR            or only the second
+ *   NUMBER FIELD VALUES    each field that differs of a pair in both, in the order and with the labels
+ *                          of saddlekerf_print: the second's value less the first's, in units of the
+ *                          field's last place, the epoch in microseconds; of class, designator, nddot
+ *                          and bstar the first's value, then the second's, as printed there
+ *
+ * Equal rosters give no line. The text stands at the front of out, with no 0 byte after it; what lies
+ * past it stays. The two rosters may be the same memory.
+ * Answer: 22 with 1 where the first buffer is no roster, 22 with 2 where the second is none
+ * (saddlekerf_which); 17 where out is too short; else 0 with the bytes written.
+ */
+uint64_t saddlekerf_changes(const uint8_t *first, size_t first_length,
+                            const uint8_t *second, size_t second_length,
+                            uint8_t *out, size_t out_length);
 
 /* ---- a satellite ---- */
 

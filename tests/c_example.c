@@ -1,6 +1,6 @@
 /*
  * Uses the library from C: reads, prints and opens pairs, reads and writes records, lodges pairs in a
- * roster and withdraws them, asks for one time and for lists, and holds every answer, bit for bit, to document 01's example and to the rows of the
+ * roster and withdraws them, lists what changed between two, asks for one time and for lists, and holds every answer, bit for bit, to document 01's example and to the rows of the
  * published test set; what memory holds afterwards too, with NaNs in it whose own bits must stay.
  *
  *   c_example bench/vectors/published-rows.txt
@@ -371,6 +371,39 @@ static void count_pairs(void)
     CHECK(counts[SADDLEKERF_REPORT_NEAR] == SADDLEKERF_PAIRS_LIMIT && counts[SADDLEKERF_REPORT_SPAN] == 0);
 }
 
+/* What changed: the whole text, room for it and one byte less, and which buffer is no roster. */
+static void compare_rosters(void)
+{
+    static const char NEW1[] = "1 00005U 58002B   00180.78495062  .00000023  00000-0 -28100-4 0  4761";
+    static const char NEW2[] = "2 00005  34.2682 348.7202 1859667 331.7664  19.3264 10.82419157413775";
+    static const char FIELDS[] = "5 epoch 86400000000\n5 bstar 28098 -4 -28100 -4\n5 set 1\n5 node -40\n5 revolution 11\n";
+    static uint8_t first[SADDLEKERF_ROSTER], second[SADDLEKERF_ROSTER];
+    static uint8_t out[SADDLEKERF_CHANGES_ROOM], before[SADDLEKERF_CHANGES_ROOM];
+    const size_t fields = sizeof FIELDS - 1, size = fields + 7 + SADDLEKERF_PAIR + 1;
+    uint64_t a;
+
+    memset(out, '.', sizeof out);
+    memcpy(before, out, sizeof out);
+    CHECK(saddlekerf_changes(first, sizeof first, second, sizeof second, out, 0) == SADDLEKERF_ANSWERED);
+    CHECK(lodge(first, LINE1, LINE2) == SADDLEKERF_ANSWERED);
+    CHECK(lodge(second, NEW1, NEW2) == SADDLEKERF_ANSWERED);
+    CHECK(lodge(second, RESONANT1, RESONANT2) == SADDLEKERF_ANSWERED);
+    CHECK(saddlekerf_changes(first, sizeof first, second, sizeof second, out, size - 1) == SADDLEKERF_ROOM);
+    CHECK(memcmp(out, before, sizeof out) == 0);
+    CHECK(saddlekerf_changes(first, sizeof first - 1, second, 0, out, size) == (SADDLEKERF_NO_ROSTER | 1 << 8));
+    a = saddlekerf_changes(first, sizeof first, second, sizeof second - 1, out, 0);
+    CHECK(saddlekerf_refusal(a) == SADDLEKERF_NO_ROSTER && saddlekerf_which(a) == 2);
+    CHECK(memcmp(out, before, sizeof out) == 0);
+    CHECK(saddlekerf_changes(first, sizeof first, second, sizeof second, out, size) == (uint64_t)size << 32);
+    CHECK(memcmp(out, FIELDS, fields) == 0 && memcmp(out + fields, "second ", 7) == 0);
+    CHECK(memcmp(out + fields + 7, RESONANT1, LENGTH) == 0 && memcmp(out + fields + 7 + LENGTH, RESONANT2, LENGTH) == 0);
+    CHECK(out[size - 1] == '\n' && memcmp(out + size, before, sizeof out - size) == 0);
+    memcpy(out, before, sizeof out);
+    CHECK(saddlekerf_changes(second, sizeof second, first, sizeof first, out, sizeof out) == (uint64_t)(size + 1) << 32);
+    CHECK(memcmp(out, "5 epoch -86400000000\n", 21) == 0 && out[size] == '\n');
+    CHECK(memcmp(out + size + 1, before, sizeof out - size - 1) == 0);
+}
+
 /* 64 numbers, and no place for another. */
 static void fill_roster(void)
 {
@@ -724,6 +757,7 @@ int main(int argc, char **argv)
     keep_roster();
     fill_roster();
     count_pairs();
+    compare_rosters();
     count_strides();
     keep_memory();
     lend_nothing();

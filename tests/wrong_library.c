@@ -25,6 +25,8 @@ uint64_t __real_saddlekerf_write(const int64_t *fields, size_t fields_length, ui
 uint64_t __real_saddlekerf_lodge(uint8_t *roster, size_t roster_length, PAIR);
 uint64_t __real_saddlekerf_withdraw(uint8_t *roster, size_t roster_length, uint64_t number);
 uint64_t __real_saddlekerf_report(const uint8_t *text, size_t text_length, uint64_t *counts, size_t counts_length);
+uint64_t __real_saddlekerf_changes(const uint8_t *first, size_t first_length, const uint8_t *second,
+                                   size_t second_length, uint8_t *out, size_t out_length);
 uint64_t __real_saddlekerf_open(PAIR, SATELLITE);
 uint64_t __real_saddlekerf_request(SATELLITE, int64_t time, double *state, size_t state_length);
 uint64_t __real_saddlekerf_request_list(SATELLITE, const int64_t *times, size_t times_length, uint8_t *refusals,
@@ -193,6 +195,24 @@ uint64_t __wrap_saddlekerf_report(const uint8_t *text, size_t text_length, uint6
         counts[0] = 0;
     if (a == SADDLEKERF_PAIRS && wrong("report-order"))
         return SADDLEKERF_ODD;
+    return a;
+}
+
+uint64_t __wrap_saddlekerf_changes(const uint8_t *first, size_t first_length, const uint8_t *second,
+                                   size_t second_length, uint8_t *out, size_t out_length)
+{
+    uint64_t a = __real_saddlekerf_changes(first, first_length, second, second_length, out, out_length);
+    const uint32_t size = saddlekerf_written(a);
+    if (a != 0 && saddlekerf_refusal(a) == SADDLEKERF_ANSWERED && wrong("changes-exchanged")) /* the first's less the second's */
+        a = __real_saddlekerf_changes(second, second_length, first, first_length, out, out_length);
+    if (saddlekerf_refusal(a) == SADDLEKERF_NO_ROSTER && wrong("changes-which"))
+        a ^= 3 << 8;
+    if (size > 0 && size < out_length && wrong("changes-past"))
+        out[size] = 0;
+    if (size > 0 && size == out_length && wrong("changes-exact"))
+        return SADDLEKERF_ROOM;
+    if (saddlekerf_refusal(a) != 0 && out_length > 0 && wrong("changes-refused"))
+        out[0] ^= 1;
     return a;
 }
 

@@ -2,7 +2,7 @@
 //! random sequences of requests. A case is found again by its seed and number.
 
 use crate::elementary::Document;
-use crate::generate::{self, Aim, Ask, Call, AIMS, DAMAGES, TEXTS};
+use crate::generate::{self, Aim, Ask, Call, AIMS, DAMAGES, RELATIONS, TEXTS};
 use crate::instant::{self, DAY};
 use crate::library::{Library, Opened};
 use crate::random::Random;
@@ -64,6 +64,10 @@ const HANDED: u64 = 3;
 const RECORD: u64 = 4;
 const ROSTER: u64 = 5;
 const REPORT: u64 = 6;
+const CHANGES: u64 = 7;
+
+/// A room for every listing.
+const LISTING_ROOM: usize = 24_448;
 
 /// A state that no library writes, to see what it leaves alone: NaNs with bits of their own among it.
 const UNTOUCHED: [f64; 6] = [
@@ -575,6 +579,88 @@ pub fn report_case(
     let mut random = case_random(seed, REPORT, index);
     report_both(&mut random, libraries, tally).map_err(|what| Difference {
         case: format!("seed {seed}, report {index}"),
+        line1: String::new(),
+        line2: String::new(),
+        what,
+    })
+}
+
+/// Both list what changed, into rooms of the same size: what they answer, and every byte of the rooms.
+fn list_both(
+    rosters: (&[u8], &[u8]),
+    room: usize,
+    libraries: (&dyn Library, &dyn Library),
+    tally: &mut Tally,
+) -> Result<(), String> {
+    let (mut one, mut other) = (vec![b'#'; room], vec![b'#'; room]);
+    let a = libraries.0.changes(rosters.0, rosters.1, &mut one);
+    let b = libraries.1.changes(rosters.0, rosters.1, &mut other);
+    let (refusal, which) = a.err().unwrap_or((0, 0));
+    tally.add(format!("changes: refusal {refusal:>2} {which}"), 1);
+    same_or("changes: answer", a == b, &a, &b)?;
+    let text = |room: &[u8]| room.escape_ascii().to_string();
+    same_or("changes: room", one == other, &text(&one), &text(&other))?;
+    let written = a.unwrap_or(0);
+    let stays = other[written..].iter().all(|&byte| byte == b'#');
+    same_or("changes: room past the listing", stays, &true, &stays)
+}
+
+fn count_lines(text: &[u8], tally: &mut Tally) {
+    for line in text.split(|&byte| byte == b'\n').filter(|line| !line.is_empty()) {
+        let words: Vec<&[u8]> = line.split(|&byte| byte == b' ').collect();
+        let kind = if words[0].is_ascii() && words[0][0].is_ascii_digit() { words[1] } else { words[0] };
+        let sign = if words[0] != b"first" && words[2].starts_with(b"-") { ", minus" } else { "" };
+        tally.add(format!("line: {}{sign}", kind.escape_ascii()), 1);
+    }
+}
+
+/// Two rosters compared with room enough, exactly enough and a byte less, and damaged.
+fn compare_all(
+    random: &mut Random,
+    relation: &str,
+    libraries: (&dyn Library, &dyn Library),
+    tally: &mut Tally,
+) -> Result<(), String> {
+    let [(records, first), (others, second)] = generate::two_rosters(random, relation);
+    tally.add(format!("rosters: {relation}"), 1);
+    let mut room = vec![0; LISTING_ROOM];
+    let size = match libraries.1.changes(&first, &second, &mut room) {
+        Ok(size) => size,
+        Err(refusal) => return Err(format!("changes: {refusal:?} in {LISTING_ROOM} bytes")),
+    };
+    count_lines(&room[..size], tally);
+    for room in
+        [LISTING_ROOM, size + 1, size, size.saturating_sub(1), random.below(size as u64 + 1) as usize, 0]
+    {
+        list_both((&first, &second), room, libraries, tally)?;
+        list_both((&second, &first), room, libraries, tally)?;
+    }
+    let damage = *random.pick(&DAMAGES);
+    let damaged = generate::damaged_roster(random, &records, damage);
+    let other = generate::damaged_roster(random, &others, damage);
+    for (a, b) in [
+        (damaged.as_deref(), Some(&second[..])),
+        (Some(&first[..]), other.as_deref()),
+        (damaged.as_deref(), other.as_deref()),
+    ] {
+        if let (Some(a), Some(b)) = (a, b) {
+            list_both((a, b), size, libraries, tally).map_err(|what| format!("{what}\nafter {damage}"))?;
+        }
+    }
+    Ok(())
+}
+
+/// Case `index` of the comparisons of two rosters.
+pub fn changes_case(
+    seed: u64,
+    index: u64,
+    libraries: (&dyn Library, &dyn Library),
+    tally: &mut Tally,
+) -> Result<(), Difference> {
+    let mut random = case_random(seed, CHANGES, index);
+    let relation = RELATIONS[index as usize % RELATIONS.len()];
+    compare_all(&mut random, relation, libraries, tally).map_err(|what| Difference {
+        case: format!("seed {seed}, two rosters {index} ({relation})"),
         line1: String::new(),
         line2: String::new(),
         what,

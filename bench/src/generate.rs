@@ -481,6 +481,84 @@ pub fn call(random: &mut Random, records: &[Record]) -> Call {
     }
 }
 
+/// How two rosters are related, by name.
+pub const RELATIONS: [&str; 7] =
+    ["equal", "none in common", "all in common", "one field each", "some in common", "both full", "any"];
+
+/// A record with one field of another, or all but the number.
+fn with_field(a: &Record, b: &Record, field: u64) -> Record {
+    let mut changed = *a;
+    match field {
+        0 => changed.classification = b.classification,
+        1 => changed.designator = b.designator,
+        2 => (changed.year, changed.day) = (b.year, b.day),
+        3 => changed.ndot = b.ndot,
+        4 => changed.ndot = -a.ndot,
+        5 => changed.nddot = b.nddot,
+        6 => changed.bstar = b.bstar,
+        7 => changed.bstar.mantissa = -a.bstar.mantissa,
+        8 => changed.ephemeris = b.ephemeris,
+        9 => changed.set = b.set,
+        10 => changed.inclination = b.inclination,
+        11 => changed.node = b.node,
+        12 => changed.eccentricity = b.eccentricity,
+        13 => changed.perigee = b.perigee,
+        14 => changed.anomaly = b.anomaly,
+        15 => changed.motion = b.motion,
+        16 => changed.revolution = b.revolution,
+        _ => changed = Record { number: a.number, ..*b },
+    }
+    changed
+}
+
+fn rising(mut records: Vec<Record>) -> Vec<Record> {
+    records.sort_by_key(|record| record.number);
+    records.dedup_by_key(|record| record.number);
+    records.truncate(PLACES);
+    records
+}
+
+/// The records of two rosters, related so, with their bytes.
+pub fn two_rosters(random: &mut Random, relation: &str) -> [(Vec<Record>, Vec<u8>); 2] {
+    let (mut first, _) = roster(random);
+    if relation == "both full" {
+        first.extend((0..4 * PLACES).map(|_| anything(random)));
+        first = rising(first);
+    }
+    let changed = |random: &mut Random, record: &Record, fields: u64| {
+        let (other, field) = (anything(random), random.below(fields));
+        with_field(record, &other, field)
+    };
+    let second: Vec<Record> = match relation {
+        "equal" => first.clone(),
+        "none in common" => {
+            let numbers: Vec<u32> = first.iter().map(|record| record.number).collect();
+            (0..first.len())
+                .map(|_| anything(random))
+                .filter(|record| !numbers.contains(&record.number))
+                .collect()
+        }
+        "all in common" | "both full" => first.iter().map(|record| changed(random, record, 20)).collect(),
+        "one field each" => first.iter().map(|record| changed(random, record, 17)).collect(),
+        "some in common" => {
+            let mut second: Vec<Record> = Vec::new();
+            for record in &first {
+                match random.below(3) {
+                    0 => second.push(changed(random, record, 20)),
+                    1 => second.push(anything(random)),
+                    _ => {}
+                }
+            }
+            second
+        }
+        _ => roster(random).0,
+    };
+    [first, rising(second)].map(|records| {
+        let bytes = packed(&records);
+        (records, bytes)
+    })
+}
+
 /// What may have happened to a buffer, by name. What comes out is now and then still a roster.
 pub const DAMAGES: [&str; 9] = [
     "another length",

@@ -10,12 +10,14 @@
 //! - [`tle`]: reading, writing and printing two-line sets.
 //! - [`roster`]: pairs lodged and withdrawn in a lent buffer.
 //! - [`report`]: the pairs of a text counted.
+//! - [`changes`]: what changed between two rosters.
 //! - [`sgp4`]: 002's model.
 //! - [`request`]: opening, single requests and lists, the saved position.
 //! - [`published`]: the pairs of 002's test set.
 //! - [`random`], [`generate`]: seeded random numbers, pairs and requests.
 //! - [`library`], [`compare`]: libraries held against each other; [`proved`] is the proved one.
 
+pub mod changes;
 pub mod compare;
 pub mod elementary;
 pub mod generate;

@@ -1,6 +1,7 @@
 //! What the comparison and the benchmark need of a library: the proved one,
 //! called over its C boundary, or one of the port's own.
 
+use crate::changes;
 use crate::elementary::{Document, Elementary};
 use crate::instant::{self, SPAN_LIMIT};
 use crate::report::{self, NUMBERS};
@@ -46,6 +47,9 @@ pub trait Library {
     fn withdraw(&self, roster: &mut [u8], number: u64) -> Result<(), u8>;
     /// Counts the pairs of a text into the room lent; or 23, 24, 17, and the room stays.
     fn report(&self, text: &[u8], room: &mut [u64]) -> Result<(), u8>;
+    /// Lists what changed between two rosters at the front of the room lent: its bytes; or 22 and which,
+    /// 17, and the room stays.
+    fn changes(&self, first: &[u8], second: &[u8], room: &mut [u8]) -> Result<usize, (u8, u8)>;
     /// Reads and opens a pair.
     fn open(&self, line1: &[u8], line2: &[u8]) -> Result<Box<dyn Opened>, Unopened>;
     /// For timing: reads a pair.
@@ -54,6 +58,8 @@ pub trait Library {
     fn lodger(&self, roster: &[u8], line1: &[u8], line2: &[u8]) -> Box<dyn Timed>;
     /// For timing: counts the pairs of a text.
     fn reporter(&self, text: &[u8]) -> Box<dyn Timed>;
+    /// For timing: lists what changed between two rosters, into a room made ready before.
+    fn comparer(&self, first: &[u8], second: &[u8]) -> Box<dyn Timed>;
     /// For timing: reads and opens a pair into memory made ready before.
     fn opener(&self, line1: &[u8], line2: &[u8]) -> Box<dyn Timed>;
     /// For timing: asks a newly opened satellite for the times, its rooms made ready before.
@@ -148,6 +154,10 @@ impl<E: Elementary + Copy + 'static> Library for Port<E> {
         report::report::<E>(text, room)
     }
 
+    fn changes(&self, first: &[u8], second: &[u8], room: &mut [u8]) -> Result<usize, (u8, u8)> {
+        changes::changes(first, second, room)
+    }
+
     fn epoch(&self, line1: &[u8], line2: &[u8]) -> Result<u64, Refusal> {
         let record = tle::read(line1, line2)?;
         let micros = instant::from_epoch(record.year as i64, record.day as i64);
@@ -173,6 +183,15 @@ impl<E: Elementary + Copy + 'static> Library for Port<E> {
 
     fn reporter(&self, text: &[u8]) -> Box<dyn Timed> {
         Box::new(Reporter { text: text.to_vec(), room: [0; NUMBERS], report: report::report::<E> })
+    }
+
+    fn comparer(&self, first: &[u8], second: &[u8]) -> Box<dyn Timed> {
+        Box::new(Comparer {
+            first: first.to_vec(),
+            second: second.to_vec(),
+            room: vec![0; COMPARER_ROOM],
+            changes: changes::changes,
+        })
     }
 
     fn opener(&self, line1: &[u8], line2: &[u8]) -> Box<dyn Timed> {
@@ -242,6 +261,29 @@ impl<R> Timed for Reporter<R> {
 
     fn run(&mut self) {
         let _ = black_box((self.report)(black_box(&self.text), black_box(&mut self.room)));
+    }
+}
+
+/// The room of a comparison that is timed: more than any listing has.
+pub const COMPARER_ROOM: usize = 30_000;
+
+/// Two rosters, a room, and what lists the changes there.
+pub struct Comparer<C> {
+    pub first: Vec<u8>,
+    pub second: Vec<u8>,
+    pub room: Vec<u8>,
+    pub changes: C,
+}
+
+impl<R, C: FnMut(&[u8], &[u8], &mut [u8]) -> R> Timed for Comparer<C> {
+    fn renew(&mut self) {}
+
+    fn run(&mut self) {
+        let _ = black_box((self.changes)(
+            black_box(&self.first),
+            black_box(&self.second),
+            black_box(&mut self.room),
+        ));
     }
 }
 
@@ -356,6 +398,10 @@ impl<E: Elementary + Copy + 'static> Library for Restarting<E> {
         self.0.report(text, room)
     }
 
+    fn changes(&self, first: &[u8], second: &[u8], room: &mut [u8]) -> Result<usize, (u8, u8)> {
+        self.0.changes(first, second, room)
+    }
+
     fn epoch(&self, line1: &[u8], line2: &[u8]) -> Result<u64, Refusal> {
         self.0.epoch(line1, line2)
     }
@@ -374,6 +420,10 @@ impl<E: Elementary + Copy + 'static> Library for Restarting<E> {
 
     fn reporter(&self, text: &[u8]) -> Box<dyn Timed> {
         self.0.reporter(text)
+    }
+
+    fn comparer(&self, first: &[u8], second: &[u8]) -> Box<dyn Timed> {
+        self.0.comparer(first, second)
     }
 
     fn opener(&self, line1: &[u8], line2: &[u8]) -> Box<dyn Timed> {

@@ -1,11 +1,13 @@
 //! The proved library, called over its C boundary by the safe wrapper in rust/.
 
-use crate::library::{Library, Lodger, Opened, Reader, Reporter, Timed, Told, Unopened};
+use crate::library::{
+    Comparer, Library, Lodger, Opened, Reader, Reporter, Timed, Told, Unopened, COMPARER_ROOM,
+};
 use crate::report::NUMBERS;
 use crate::request::{Row, Saved};
 use crate::roster;
 use crate::tle::{self, Exponential};
-use saddlekerf::{Field, Line, Microseconds, Record, Refusal, Rooms, Satellite, State};
+use saddlekerf::{Field, Line, Microseconds, Record, Refusal, Rooms, Satellite, State, Uncompared};
 use std::hint::black_box;
 
 pub struct Proved;
@@ -165,6 +167,14 @@ impl Library for Proved {
         saddlekerf::count_text(text, room).map_err(Refusal::number)
     }
 
+    fn changes(&self, first: &[u8], second: &[u8], room: &mut [u8]) -> Result<usize, (u8, u8)> {
+        let which = |refusal| match refusal {
+            Uncompared::NoRoster(which) => (22, which as u8),
+            Uncompared::Room => (17, 0),
+        };
+        saddlekerf::changes(first, second, room).map(|text| text.len()).map_err(which)
+    }
+
     fn open(&self, line1: &[u8], line2: &[u8]) -> Result<Box<dyn Opened>, Unopened> {
         match Satellite::open(line1, line2) {
             Ok(satellite) => Ok(Box::new(satellite)),
@@ -187,6 +197,17 @@ impl Library for Proved {
 
     fn reporter(&self, text: &[u8]) -> Box<dyn Timed> {
         Box::new(Reporter { text: text.to_vec(), room: [0; NUMBERS], report: saddlekerf::count_text })
+    }
+
+    fn comparer(&self, first: &[u8], second: &[u8]) -> Box<dyn Timed> {
+        Box::new(Comparer {
+            first: first.to_vec(),
+            second: second.to_vec(),
+            room: vec![0; COMPARER_ROOM],
+            changes: |first: &[u8], second: &[u8], room: &mut [u8]| {
+                saddlekerf::changes(first, second, room).map(|text| text.len())
+            },
+        })
     }
 
     fn opener(&self, line1: &[u8], line2: &[u8]) -> Box<dyn Timed> {

@@ -31,22 +31,27 @@ pub fn spelt(record: &Record) -> [u8; PAIR] {
     pair
 }
 
-/// The number and the epoch of each pair, in their order; None where the buffer is no roster.
-fn entries(buffer: &[u8]) -> Option<Vec<(u32, i64)>> {
+/// The record of each pair, in their order; None where the buffer is no roster.
+pub fn records(buffer: &[u8]) -> Option<Vec<Record>> {
     if buffer.len() != SIZE {
         return None;
     }
     let used = buffer.iter().rposition(|&byte| byte != 0).map_or(0, |last| last / PAIR + 1);
-    let mut entries: Vec<(u32, i64)> = Vec::with_capacity(used);
+    let mut records: Vec<Record> = Vec::with_capacity(used);
     for place in buffer.chunks(PAIR).take(used) {
         let record = tle::read(&place[..LENGTH], &place[LENGTH..]).ok()?;
-        let rising = entries.last().is_none_or(|&(number, _)| number < record.number);
+        let rising = records.last().is_none_or(|last| last.number < record.number);
         if !rising || spelt(&record) != place {
             return None;
         }
-        entries.push((record.number, record.epoch()));
+        records.push(record);
     }
-    Some(entries)
+    Some(records)
+}
+
+/// The number and the epoch of each pair.
+fn entries(buffer: &[u8]) -> Option<Vec<(u32, i64)>> {
+    Some(records(buffer)?.iter().map(|record| (record.number, record.epoch())).collect())
 }
 
 /// The epoch of a number's pair.

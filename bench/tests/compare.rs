@@ -1,6 +1,8 @@
 //! The short run of the comparison; `cargo run --release --bin compare` is the long one.
 
-use port::compare::{damaged_case, handed_case, record_case, report_case, roster_case, whole_case, Tally};
+use port::compare::{
+    changes_case, damaged_case, handed_case, record_case, report_case, roster_case, whole_case, Tally,
+};
 use port::elementary::{Document, DocumentProcessor, Libm};
 use port::library::{Library, Opened, Port, Restarting, Timed, Told, Unopened};
 use port::proved::Proved;
@@ -137,6 +139,32 @@ fn reports() {
     for damage in port::generate::TEXTS {
         let name = format!("text: {damage}");
         assert!(tally.of(&name) >= 20, "{name}: {}", tally.of(&name));
+    }
+}
+
+/// Rosters with none, some and all numbers in common, full ones, fields that differ alone, damaged ones;
+/// rooms that are enough, exactly enough and a byte short.
+#[test]
+fn changes() {
+    let (port, mut tally) = (Port::<Document>::new(), Tally::default());
+    for index in 0..700 {
+        changes_case(SEED, index, (&port, &Proved), &mut tally).unwrap_or_else(|found| panic!("{found}"));
+    }
+    println!("{tally}");
+    for relation in port::generate::RELATIONS {
+        let name = format!("rosters: {relation}");
+        assert!(tally.of(&name) >= 100, "{name}: {}", tally.of(&name));
+    }
+    for answer in [" 0 0", "17 0", "22 1", "22 2"] {
+        let name = format!("changes: refusal {answer}");
+        assert!(tally.of(&name) >= 200, "{name}: {}", tally.of(&name));
+    }
+    let signed = ["epoch", "ndot", "nddot", "bstar", "type", "set", "inclination", "node", "eccentricity"];
+    let signed = signed.into_iter().chain(["perigee", "anomaly", "motion", "revolution"]);
+    let lines = signed.flat_map(|label| [label.to_string(), format!("{label}, minus")]);
+    for label in ["first", "second", "class", "designator"].map(String::from).into_iter().chain(lines) {
+        let name = format!("line: {label}");
+        assert!(tally.of(&name) >= 50, "{name}: {}", tally.of(&name));
     }
 }
 
@@ -291,6 +319,14 @@ enum Slip {
     PastTheNumbers,
     /// A number of the room after a refused report.
     ReportRefused,
+    /// The first's values less the second's.
+    Exchanged,
+    /// The other roster named.
+    OtherRoster,
+    /// A room of just the listing refused.
+    ExactRoom,
+    /// A byte of a room after a refused comparison.
+    RoomRefused,
 }
 
 /// The proved library with a slip. Rows slip only once, after `at` others that could have.
@@ -408,11 +444,29 @@ impl Library for Slipping {
         answer
     }
 
+    fn changes(&self, first: &[u8], second: &[u8], room: &mut [u8]) -> Result<usize, (u8, u8)> {
+        if matches!(self.slip, Slip::Exchanged) {
+            return Proved.changes(second, first, room);
+        }
+        let answer = Proved.changes(first, second, room);
+        match (self.slip, answer) {
+            (Slip::OtherRoster, Err((22, which))) => return Err((22, 3 - which)),
+            (Slip::ExactRoom, Ok(size)) if size == room.len() && size > 0 => return Err((17, 0)),
+            (Slip::RoomRefused, Err(_)) if !room.is_empty() => room[0] ^= 1,
+            _ => {}
+        }
+        answer
+    }
+
     fn reporter(&self, _: &[u8]) -> Box<dyn Timed> {
         unreachable!()
     }
 
     fn lodger(&self, _: &[u8], _: &[u8], _: &[u8]) -> Box<dyn Timed> {
+        unreachable!()
+    }
+
+    fn comparer(&self, _: &[u8], _: &[u8]) -> Box<dyn Timed> {
         unreachable!()
     }
 
@@ -544,6 +598,7 @@ fn found(slip: Slip, at: u64) -> String {
         let other = other.and_then(|()| handed_case(SEED, index, libraries, &mut tally));
         let other = other.and_then(|()| roster_case(SEED, index, libraries, &mut tally));
         let other = other.and_then(|()| report_case(SEED, index, libraries, &mut tally));
+        let other = other.and_then(|()| changes_case(SEED, index, libraries, &mut tally));
         if let Err(difference) = other.and_then(|()| record_case(SEED, index, libraries, &mut tally)) {
             return difference.what;
         }
@@ -605,6 +660,10 @@ fn every_other_slip_is_seen() {
         (Slip::OddFirst, ["report"; 2]),
         (Slip::PastTheNumbers, ["report"; 2]),
         (Slip::ReportRefused, ["report"; 2]),
+        (Slip::Exchanged, ["changes"; 2]),
+        (Slip::OtherRoster, ["changes"; 2]),
+        (Slip::ExactRoom, ["changes"; 2]),
+        (Slip::RoomRefused, ["changes"; 2]),
     ] {
         let what = found(slip, 0);
         assert!(starts.iter().any(|start| what.starts_with(start)), "{slip:?}: {what}");

@@ -98,6 +98,15 @@ mod c {
             counts_length: usize,
         ) -> u64;
 
+        pub fn saddlekerf_changes(
+            first: *const u8,
+            first_length: usize,
+            second: *const u8,
+            second_length: usize,
+            out: *mut u8,
+            out_length: usize,
+        ) -> u64;
+
         pub fn saddlekerf_open(
             line1: *const u8,
             line1_length: usize,
@@ -229,6 +238,20 @@ pub fn withdraw(roster: &mut [u8], number: u64) -> u64 {
 pub fn report(text: &[u8], counts: &mut [u64]) -> u64 {
     // SAFETY: a shared slice and a mutable one.
     unsafe { c::saddlekerf_report(text.as_ptr(), text.len(), counts.as_mut_ptr(), counts.len()) }
+}
+
+pub fn changes(first: &[u8], second: &[u8], out: &mut [u8]) -> u64 {
+    // SAFETY: all three are slices; `out` is mutable, so that it overlaps neither roster.
+    unsafe {
+        c::saddlekerf_changes(
+            first.as_ptr(),
+            first.len(),
+            second.as_ptr(),
+            second.len(),
+            out.as_mut_ptr(),
+            out.len(),
+        )
+    }
 }
 
 pub fn open(line1: &[u8], line2: &[u8], numbers: &mut [f64], marks: &mut [u32]) -> u64 {

@@ -103,7 +103,7 @@ mod time;
 pub use record::{Exponential, Record};
 pub use refusal::{Field, Line, Refusal};
 pub use report::{count_text, Date, Report};
-pub use roster::{lodge, withdraw, Pair, Roster};
+pub use roster::{changes, lodge, withdraw, Pair, Roster, Uncompared, Which};
 pub use satellite::{Answer, Rooms, Row, Rows, Satellite, State};
 pub use time::{Instant, Microseconds, Strides};
 

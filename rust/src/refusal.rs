@@ -1,5 +1,6 @@
 //! Refusals, and answers of the library taken apart.
 
+use crate::roster::{Uncompared, Which};
 use std::fmt;
 
 /// One of the two lines of a set.
@@ -192,6 +193,17 @@ impl Answer {
             (0, count) => Ok(count),
             (_, 0) => Err(self.refusal()),
             _ => self.foreign(),
+        }
+    }
+
+    /// The answer of a comparison: bytes written, or why there are none; None where it is no such answer.
+    pub fn compared(self) -> Option<Result<u32, Uncompared>> {
+        match (self.0 as u32, self.count()) {
+            (0, count) => Some(Ok(count)),
+            (0x116, 0) => Some(Err(Uncompared::NoRoster(Which::First))),
+            (0x216, 0) => Some(Err(Uncompared::NoRoster(Which::Second))),
+            (17, 0) => Some(Err(Uncompared::Room)),
+            _ => None,
         }
     }
 

@@ -22,6 +22,57 @@ pub fn withdraw(roster: &mut [u8], number: u64) -> Result<(), Refusal> {
     Packed(ffi::withdraw(roster, number)).plain()
 }
 
+/// One of the two rosters that are compared.
+#[derive(Clone, Copy, Debug, PartialEq, Eq, Hash)]
+pub enum Which {
+    First = 1,
+    Second = 2,
+}
+
+/// Why two buffers are not compared.
+#[derive(Clone, Copy, Debug, PartialEq, Eq, Hash)]
+pub enum Uncompared {
+    /// 22: this buffer is no roster, or has another length.
+    NoRoster(Which),
+    /// 17: the listing is longer than the lent room.
+    Room,
+}
+
+impl Uncompared {
+    /// The refusal's number.
+    pub const fn number(self) -> u8 {
+        match self {
+            Uncompared::NoRoster(_) => 22,
+            Uncompared::Room => 17,
+        }
+    }
+}
+
+impl fmt::Display for Uncompared {
+    fn fmt(&self, f: &mut fmt::Formatter<'_>) -> fmt::Result {
+        f.write_str(match self {
+            Uncompared::NoRoster(Which::First) => "refusal 22: the first buffer is no roster",
+            Uncompared::NoRoster(Which::Second) => "refusal 22: the second buffer is no roster",
+            Uncompared::Room => "refusal 17: the room is too short",
+        })
+    }
+}
+
+impl std::error::Error for Uncompared {}
+
+/// Lists what changed from the first roster to the second at the front of `out`, and returns the part
+/// written. Refusal 22 where a buffer is no roster or has another length, the first looked at first,
+/// then 17 where the room is too short; each leaves the room as it was. A room of
+/// [`Roster::CHANGES_ROOM`] bytes is never too short.
+///
+/// [`Roster::changes_since`] has the lines.
+pub fn changes<'o>(first: &[u8], second: &[u8], out: &'o mut [u8]) -> Result<&'o mut [u8], Uncompared> {
+    let answer = ffi::changes(first, second, out);
+    let written =
+        Packed(answer).compared().unwrap_or_else(|| panic!("libsaddlekerf.a answered {answer:#x}"))?;
+    Ok(&mut out[..written as usize])
+}
+
 /// Up to 64 pairs, one a catalogue number, by rising number.
 ///
 /// Its bytes are 138 for each pair, line 1 and line 2 as [`Record::write`] writes them, packed from
@@ -86,6 +137,8 @@ impl<'a> Roster<'a> {
     pub const SIZE: usize = 8832;
     pub const PAIR: usize = 2 * Record::LINE;
     pub const PLACES: usize = 64;
+    /// Bytes of a room for [`changes`] that is never too short.
+    pub const CHANGES_ROOM: usize = 24448;
 
     /// The roster that lent bytes hold; or refusal 22. All zeros are the empty roster.
     pub fn lent(bytes: &'a mut [u8]) -> Result<Roster<'a>, Refusal> {
@@ -120,6 +173,40 @@ impl<'a> Roster<'a> {
             let (line1, line2) = place.split_at(Record::LINE);
             Pair { line1, line2 }
         })
+    }
+
+    /// What changed since an earlier roster: lines by rising number, each ended by a newline. A pair that
+    /// only the earlier one has is `first` and its 138 bytes, one that only this one has `second`; of a
+    /// pair in both, each field that differs has the number, the label that [`print`](crate::print) gives
+    /// it, and this roster's value less the earlier one's in units of the field's last place, epochs in
+    /// microseconds. Class, designator, nddot and bstar show the earlier value, then this one's.
+    ///
+    /// ```
+    /// use saddlekerf::{Refusal, Roster};
+    ///
+    /// # fn main() -> Result<(), Refusal> {
+    /// # let line1 = b"1 00005U 58002B   00179.78495062  .00000023  00000-0  28098-4 0  4753";
+    /// # let line2 = b"2 00005  34.2682 348.7242 1859667 331.7664  19.3264 10.82419157413667";
+    /// let mut roster = Roster::new();
+    /// roster.lodge(line1, line2)?;
+    /// let yesterday = roster.copied();
+    /// roster.lodge(
+    ///     b"1 00005U 58002B   00180.78495062  .00000023  00000-0 -28100-4 0  4761",
+    ///     b"2 00005  34.2682 348.7202 1859667 331.7664  19.3264 10.82419157413775",
+    /// )?;
+    /// assert_eq!(
+    ///     roster.changes_since(&yesterday),
+    ///     "5 epoch 86400000000\n5 bstar 28098 -4 -28100 -4\n5 set 1\n5 node -40\n5 revolution 11\n",
+    /// );
+    /// assert_eq!(roster.changes_since(&roster), "");
+    /// # Ok(())
+    /// # }
+    /// ```
+    pub fn changes_since(&self, earlier: &Roster<'_>) -> String {
+        let mut out = vec![0; Roster::CHANGES_ROOM];
+        let size = changes(earlier.bytes(), self.bytes(), &mut out).expect("two rosters").len();
+        out.truncate(size);
+        String::from_utf8(out).expect("letters, digits, blanks and signs")
     }
 
     pub fn len(&self) -> usize {

@@ -1,6 +1,6 @@
 //! Rosters: lodged, replaced, refused, withdrawn, and every byte afterwards.
 
-use saddlekerf::{lodge, withdraw, Field, Line, Record, Refusal, Roster};
+use saddlekerf::{changes, lodge, withdraw, Field, Line, Record, Refusal, Roster, Uncompared, Which};
 
 const LINE1: &[u8] = b"1 00005U 58002B   00179.78495062  .00000023  00000-0  28098-4 0  4753";
 const LINE2: &[u8] = b"2 00005  34.2682 348.7242 1859667 331.7664  19.3264 10.82419157413667";
@@ -166,4 +166,51 @@ fn a_copy_is_its_own() {
     assert_eq!(roster.withdraw(5), Ok(()));
     assert_eq!((roster.len(), copy.len()), (0, 1));
     assert_eq!(Roster::default().bytes(), EMPTY);
+}
+
+/// Two days of a roster: a pair gone, one new, one with other elements, one as it was; any room.
+#[test]
+fn what_changed() {
+    let example = [LINE1.try_into().unwrap(), LINE2.try_into().unwrap()];
+    let old = [example, pair(7, DAY), pair(9, DAY)];
+    let later: [[u8; 69]; 2] = [
+        *b"1 00005U 58002B   00180.78495062  .00000023  00000-0 -28100-4 0  4761",
+        *b"2 00005  34.2682 348.7202 1859667 331.7664  19.3264 10.82419157413775",
+    ];
+    let new = [later, pair(8, DAY), pair(9, DAY)];
+    let (first, second) = (packed(&old), packed(&new));
+    let expected = format!(
+        "5 epoch 86400000000\n5 bstar 28098 -4 -28100 -4\n5 set 1\n5 node -40\n5 revolution 11\nfirst {}\nsecond {}\n",
+        String::from_utf8(old[1].concat()).unwrap(),
+        String::from_utf8(new[1].concat()).unwrap(),
+    );
+    let size = expected.len();
+    for room in [size + 9, size, Roster::CHANGES_ROOM] {
+        let mut out = vec![b'.'; room];
+        assert_eq!(changes(&first, &second, &mut out).unwrap(), expected.as_bytes());
+        assert!(out[size..].iter().all(|&byte| byte == b'.'));
+    }
+    for room in [size - 1, 1, 0] {
+        let mut out = vec![b'.'; room];
+        assert_eq!(changes(&first, &second, &mut out), Err(Uncompared::Room));
+        assert_eq!(out, vec![b'.'; room]);
+    }
+    let (mut first, mut second) = (first, second);
+    let (yesterday, today) = (Roster::lent(&mut first).unwrap(), Roster::lent(&mut second).unwrap());
+    assert_eq!(today.changes_since(&yesterday), expected);
+    assert_eq!(today.changes_since(&today), "");
+}
+
+/// The first is looked at first, and both before the room.
+#[test]
+fn which_is_no_roster() {
+    let whole = packed(&[pair(5, DAY)]);
+    let bad = &whole[1..];
+    let mut out = [b'.'; 3];
+    assert_eq!(changes(bad, &whole, &mut out), Err(Uncompared::NoRoster(Which::First)));
+    assert_eq!(changes(&whole, bad, &mut out), Err(Uncompared::NoRoster(Which::Second)));
+    assert_eq!(changes(bad, bad, &mut out), Err(Uncompared::NoRoster(Which::First)));
+    assert_eq!(changes(&whole, &whole, &mut []).unwrap(), b"");
+    assert_eq!(out, [b'.'; 3]);
+    assert_eq!([Uncompared::Room, Uncompared::NoRoster(Which::Second)].map(Uncompared::number), [17, 22]);
 }

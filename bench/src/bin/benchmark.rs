@@ -52,6 +52,20 @@ fn full_text() -> Vec<u8> {
     lines.flat_map(|line| line.iter().chain(b"\n")).copied().collect()
 }
 
+/// The same roster a day later: half of its pairs with other elements, half with other numbers.
+fn changed_roster() -> Vec<u8> {
+    let (line1, line2) = pair("06251");
+    let example = tle::read(&line1, &line2).expect("a published pair");
+    let later = tle::Record {
+        day: example.day + 1_0000_0000,
+        node: example.node + 1,
+        set: example.set + 1,
+        ..example
+    };
+    let number = |place: u32| 1000 * place + place % 2;
+    (0..PLACES as u32).flat_map(|place| spelt(&tle::Record { number: number(place), ..later })).collect()
+}
+
 /// The libraries timed; ratios are the first one's time over another's. The
 /// port has the processor's square root throughout, and in its last form the
 /// other functions as document 01 has them.
@@ -148,4 +162,7 @@ fn main() {
     let text = full_text();
     let mut timed = libraries.each_ref().map(|library| library.reporter(&text));
     show("a pair of a report of 4,096", &race(&mut timed, rounds, 1, PAIRS));
+    let changed = changed_roster();
+    let mut timed = libraries.each_ref().map(|library| library.comparer(&roster, &changed));
+    show("comparing two full rosters", &race(&mut timed, rounds, RUNS / 20, 1));
 }
