@@ -100,6 +100,28 @@ fn test_report() {
 }
 
 #[test]
+fn test_compare() {
+    written("tests/roster_changes.py", "crates/test_compare");
+}
+
+/// The two files of what_changed and what it prints of them, by the maker and by the port.
+#[test]
+fn what_changed() {
+    let folder = PathBuf::from(env!("CARGO_TARGET_TMPDIR"));
+    let made = ["yesterday", "today", "listing"].map(|name| folder.join(format!("changes-{name}")));
+    output(
+        Command::new("python3").current_dir(root()).args(["tests/roster_changes.py", "--files"]).args(&made),
+    );
+    let [first, second, text] = made.map(|path| std::fs::read(path).unwrap());
+    assert!(first == stored("crates/what_changed/data/yesterday"));
+    assert!(second == stored("crates/what_changed/data/today"));
+    assert!(text == stored("crates/what_changed/stdout"));
+    let mut room = vec![0; text.len()];
+    assert_eq!(port::changes::changes(&first, &second, &mut room), Ok(text.len()));
+    assert!(room == text);
+}
+
+#[test]
 fn test_listing() {
     written("tests/print_cases.py", "crates/test_listing");
 }
