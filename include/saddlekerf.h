@@ -57,7 +57,7 @@
  *   time 3,652 days away, some 1.5 ms), a list at most 7,479,296 (1,024 such times, each on the other
  *   side of the epoch than the one before, some 1.5 s). saddlekerf_strides tells how many were taken.
  *   A call on a roster judges all its pairs, some 30 microseconds for 64; listing what changed between
- *   two takes some 120.
+ *   two full ones takes some 90.
  *   No function needs more than SADDLEKERF_STACK bytes of stack, beside what memcpy and memset take.
  *
  * VERSIONS

@@ -1,6 +1,6 @@
 -- The room that is never too short.
 use Prim.Native.Nat.{ℕ, _≤_}
-use mathlib.Core.Path.{_≡_, refl, sym, ap, _∙_}
+use mathlib.Core.Path.{_≡_, refl}
 use mathlib.Core.Bool.{Bool, true, false, cond}
 use mathlib.Core.List.{List}
 use mathlib.Core.Option.{Option, none, some}
@@ -15,7 +15,6 @@ use Rattle.changes_text.specs.Claims.{mostRoom}
 use Rattle.changes_text.proofs.Lengths.{listings-fit}
 use Rattle.compare.specs.Compare.{textOf, comparedOf}
 use Rattle.compare.specs.Claims.{RoomSuffices, WrittenBounded}
-use Rattle.compare.specs.declared.Compared.{Compared}
 use Rattle.compare.specs.declared.Compared.the-variants as compared
 
 text-fits : (a b : List ℕ) (xs bs : List Record) → rosterOf a ≡ some xs → rosterOf b ≡ some bs → length (textOf xs bs) ≤ mostRoom
