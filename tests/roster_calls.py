@@ -1,14 +1,15 @@
 #!/usr/bin/env python3
-"""Calls on a roster, and all its bytes after each.
+"""Calls on a roster and the row of instants beside it, and all of both after each.
 
-A roster of its own, written from document 02 (wishes 2 and 3) and from nothing else,
+A roster of its own, written from document 02 (wishes 2, 3 and 8) and from nothing else,
 over the reader of tle_pairs.py and the spelling of written_lines.py.
 
   roster_calls.py --write INPUT EXPECTED
       writes steps of two lines each, as crate test_roster reads them, and for
       each call its answer and the buffer afterwards: by places of 138 bytes, a
       zero as `~`, what is not printable as `\\` and two hexadecimal digits, and
-      then how many zeros are left.
+      then how many zeros are left; then the row's instants, and how many zeros
+      are left of it.
 """
 
 import argparse
@@ -60,28 +61,51 @@ def packed(pairs):
     return b"".join(sorted(pairs, key=catalogue)).ljust(SIZE, b"\0")
 
 
-def lodged(buffer, one, two):
+def row_of(pairs):
+    """The row beside a roster: the instant of each pair, and 0 past the last."""
+    return [instant(pair) for pair in pairs] + [0] * (PLACES - len(pairs))
+
+
+def with_row(buffer, row):
+    """The pairs of a roster whose row this is."""
+    pairs = held(buffer)
+    return pairs if pairs is not None and row == row_of(pairs) else None
+
+
+def both(pairs):
+    pairs = sorted(pairs, key=catalogue)
+    return packed(pairs), row_of(pairs)
+
+
+def lodged(buffer, row, one, two):
     answer = judge(one, two)
     if answer != "ok":
-        return answer, buffer
-    pairs = held(buffer)
+        return answer, buffer, row
+    pairs = with_row(buffer, row)
     if pairs is None:
-        return "refused 22", buffer
+        return "refused 22", buffer, row
     new = spelt(one, two)
     others = [pair for pair in pairs if catalogue(pair) != catalogue(new)]
     if any(instant(new) < instant(pair) for pair in pairs if pair not in others):
-        return "refused 20", buffer
+        return "refused 20", buffer, row
     if len(others) == PLACES:
-        return "refused 19", buffer
-    return "ok", packed(others + [new])
+        return "refused 19", buffer, row
+    return "ok", *both(others + [new])
 
 
-def withdrawn(buffer, number):
-    pairs = held(buffer)
+def withdrawn(buffer, row, number):
+    pairs = with_row(buffer, row)
     if pairs is None:
-        return "refused 22", buffer
+        return "refused 22", buffer, row
     others = [pair for pair in pairs if catalogue(pair) != number]
-    return ("ok", packed(others)) if len(others) < len(pairs) else ("refused 21", buffer)
+    return ("ok", *both(others)) if len(others) < len(pairs) else ("refused 21", buffer, row)
+
+
+def filled(buffer, row):
+    pairs = held(buffer)
+    if pairs is None or len(row) != PLACES:
+        return "refused 22", buffer, row
+    return "ok", buffer, row_of(pairs)
 
 
 # ------------------------------------------------------------------ the steps
@@ -96,27 +120,32 @@ def shown(place):
 
 
 class Steps:
-    """What is given, what is expected, and the buffer so far."""
+    """What is given, what is expected, and the buffer and the row so far."""
 
     def __init__(self):
         self.given = b""
         self.expected = ""
         self.buffer = EMPTY
+        self.row = [0] * PLACES
 
-    def step(self, one, two):
+    def step(self, one, two=b""):
         assert b"\n" not in one + two
         self.given += one + b"\n" + two + b"\n"
 
-    def tell(self, answer, buffer):
-        self.buffer = buffer
+    def tell(self, answer, buffer, row):
+        self.buffer, self.row = buffer, row
         used = -(-len(buffer.rstrip(b"\0")) // PLACE)
         places = [buffer[i * PLACE:(i + 1) * PLACE] for i in range(used)]
         zeros = len(buffer) - sum(map(len, places))
-        self.expected += "".join(f"{line}\n" for line in [answer, *map(shown, places), f"zeros {zeros}"])
+        before = max((i + 1 for i, t in enumerate(row) if t), default=0)
+        instants = [f"instant {t}" for t in row[:before]]
+        lines = [answer, *map(shown, places), f"zeros {zeros}", *instants, f"after {len(row) - before}"]
+        self.expected += "".join(f"{line}\n" for line in lines)
 
     def length(self, size):
-        self.step(b"=%d" % size, b"")
+        self.step(b"=%d" % size)
         self.buffer = bytes(size)
+        self.row = [0] * PLACES
 
     def put(self, at, some):
         for i in range(0, len(some), 69):
@@ -125,18 +154,32 @@ class Steps:
             self.buffer = self.buffer[:at + i] + part + self.buffer[at + i + len(part):]
 
     def load(self, buffer):
-        """A buffer that no call made."""
+        """A buffer that no call made, kept without a row."""
         self.length(len(buffer))
         self.put(0, buffer.rstrip(b"\0"))
 
+    def set(self, place, instant):
+        """An instant that no call put into the row."""
+        self.step(b"#%d" % place, b"%d" % instant)
+        self.row = self.row[:place] + [instant] + self.row[place + 1:]
+
+    def cut(self, width):
+        """A row of another length: the first places of a longer one whose others are 0."""
+        self.step(b"*%d" % width)
+        self.row = (self.row + [0] * width)[:width]
+
     def lodge(self, one, two):
-        assert one[:1] not in (b"=", b"@", b"-") 
+        assert one[:1] not in (b"=", b"@", b"#", b"*", b"+", b"-")
         self.step(one, two)
-        self.tell(*lodged(self.buffer, one, two))
+        self.tell(*lodged(self.buffer, self.row, one, two))
 
     def withdraw(self, number):
-        self.step(b"-%d" % number, b"")
-        self.tell(*withdrawn(self.buffer, number))
+        self.step(b"-%d" % number)
+        self.tell(*withdrawn(self.buffer, self.row, number))
+
+    def fill(self):
+        self.step(b"+")
+        self.tell(*filled(self.buffer, self.row))
 
 
 def places(number):
@@ -212,6 +255,7 @@ def refusals_of_reading(steps):
     ]
     for buffer in (packed([spelt(*EXAMPLE)]), b"?" + bytes(SIZE - 1), bytes(SIZE - 1)):
         steps.load(buffer)
+        steps.fill()
         for one, two in unread:
             steps.lodge(one, two)
         steps.lodge(*EXAMPLE)
@@ -222,6 +266,8 @@ def full(steps, draw):
     numbers = sorted(draw.rng.sample(range(1, 339999), PLACES))
     pairs = [spelt(*pair(number, year="06", day="%03d.00000000" % (i + 1))) for i, number in enumerate(numbers)]
     steps.load(packed(pairs))
+    steps.lodge(*pair(numbers[0], year="07"))
+    steps.fill()
     steps.lodge(*pair(0))
     steps.lodge(*pair(339999, year="56"))
     steps.lodge(*pair(numbers[0], year="07"))
@@ -270,8 +316,66 @@ def damaged(steps):
         steps.load(buffer)
         steps.lodge(*pair(20, year="07"))
         steps.withdraw(20)
+        steps.fill()
     steps.load(whole)
+    steps.fill()
     steps.withdraw(20)
+
+
+def rows(steps):
+    """Wish 8: 22 for a row that is not the roster's, which stays; one that is filled, whatever it held."""
+    three = [spelt(*pair(number, year="06", day=day)) for number, day in ((10, "001.00000000"), (20, "300.50000000"), (30, "100.25000000"))]
+    right = row_of(three)
+    changed = [{0: right[0] + 1}, {1: right[1] - 1}, {2: 0}, {0: right[1], 1: right[0]}, {3: 1}, {63: 1}, {63: 2 ** 64 - 1}, {0: 2 ** 64 - 1},
+               {1: right[1] + 864}, {i: 0 for i in range(3)}, {0: 0, 1: right[0], 2: right[1], 3: right[2]}]
+    steps.load(packed(three))
+    steps.fill()
+    for change in changed:
+        for place, value in change.items():
+            steps.set(place, value)
+        steps.lodge(*pair(20, year="07"))
+        steps.withdraw(10)
+        steps.fill()
+    # other lengths, the fitting ones in front
+    for width in (63, 65, 0, 3, 1, 70):
+        steps.cut(width)
+        steps.lodge(*pair(20, year="07"))
+        steps.withdraw(20)
+        steps.fill()
+        steps.cut(PLACES)
+        steps.fill()
+    steps.withdraw(10)
+    steps.withdraw(30)
+    # a row of anything, filled for an empty roster and for one of 64
+    steps.length(SIZE)
+    for place in range(0, PLACES, 7):
+        steps.set(place, 10 ** 15 + place)
+    steps.withdraw(5)
+    steps.fill()
+    steps.withdraw(5)
+
+
+def instant_zero(steps):
+    """1957 January 1, 0h is the instant 0: its place is no empty one, in front, in between and at the end."""
+    zero = dict(year="57", day="001.00000000")
+    steps.length(SIZE)
+    steps.lodge(*pair(20, **zero))
+    steps.lodge(*pair(10, year="06"))
+    steps.lodge(*pair(30, **zero))
+    steps.lodge(*pair(5, **zero))
+    steps.lodge(*pair(10, **zero))
+    steps.lodge(*pair(20, type="1", **zero))
+    steps.lodge(*pair(30, year="57", day="001.00000001"))
+    steps.lodge(*pair(30, **zero))
+    steps.fill()
+    for number in (5, 10, 7, 30, 20, 20):
+        steps.withdraw(number)
+    # kept without a row: all zeros are its own
+    steps.load(packed([spelt(*pair(number, **zero)) for number in (1, 2)]))
+    steps.withdraw(1)
+    steps.lodge(*pair(3))
+    steps.set(0, 1)
+    steps.withdraw(2)
 
 
 def main():
@@ -286,6 +390,8 @@ def main():
     refusals_of_reading(steps)
     full(steps, draw)
     damaged(steps)
+    rows(steps)
+    instant_zero(steps)
     assert len(steps.given) < 65536, "more than the program reads"
     given.write_bytes(steps.given)
     expected.write_text(steps.expected)

@@ -1,5 +1,5 @@
 #!/usr/bin/env python3
-"""What changed between two rosters, written from document 02 (wish 7) and from nothing else, over the
+"""What changed between two rosters, written from document 02 (wishes 7 and 8) and from nothing else, over the
 rosters of roster_calls.py.
 
   roster_changes.py --write INPUT EXPECTED
@@ -15,7 +15,7 @@ import sys
 from pathlib import Path
 
 sys.dont_write_bytecode = True
-from roster_calls import PLACE, PLACES, SIZE, held, instant, packed, pair, places, spelt
+from roster_calls import PLACE, PLACES, SIZE, filled, held, instant, packed, pair, places, spelt, with_row
 from tle_pairs import EXAMPLE, Draw, catalogue, line1, line2
 
 # ------------------------------------------------------------------ the listing
@@ -73,9 +73,15 @@ def listing(first, second):
     return "".join(line + "\n" for line in lines)
 
 
-def compared(first, second, room):
-    """The answer, and what is written."""
-    pairs = held(first), held(second)
+def row(buffer, damaged):
+    """The row of a buffer, filled; where it is damaged, its last instant is 1."""
+    instants = filled(buffer, [0] * PLACES)[2]
+    return instants[:-1] + [1] if damaged else instants
+
+
+def compared(first, second, room, mark=b""):
+    """The answer, and what is written. Each roster has its row; that of the one marked is damaged."""
+    pairs = with_row(first, row(first, mark == b"<")), with_row(second, row(second, mark == b">"))
     for which, found in zip(("first", "second"), pairs):
         if found is None:
             return f"refused 22 {which}", ""
@@ -107,9 +113,9 @@ class Steps:
         self.load(b"<", first)
         self.load(b">", second)
 
-    def compare(self, room):
-        self.step(b"?%d" % room)
-        answer, text = compared(self.first, self.second, room)
+    def compare(self, room, mark=b""):
+        self.step(b"?%d" % room, mark)
+        answer, text = compared(self.first, self.second, room, mark)
         self.expected += f"{answer}\n{text}kept {room - len(text)}\n"
         self.calls += 1
 
@@ -212,6 +218,16 @@ def damaged(steps):
             steps.compare(0)
 
 
+def rows(steps):
+    """Wish 8: 22 also for a row that is not the roster's, of either; the first is looked at first, both before 17."""
+    whole = packed([one(10, year="57", day="001.00000000"), one(20)])
+    for first, second in ((whole, whole), (packed([]), whole), (whole[:-1], whole), (whole, whole[:-1])):
+        steps.rosters(first, second)
+        for mark in (b"<", b">", b""):
+            steps.compare(10000, mark)
+            steps.compare(0, mark)
+
+
 def write(given, expected):
     steps = Steps()
     draw = Draw(random.Random(21))
@@ -220,6 +236,7 @@ def write(given, expected):
     rosters(steps, draw)
     full(steps)
     damaged(steps)
+    rows(steps)
     assert len(steps.given) < 65536, "more than the program reads"
     given.write_bytes(steps.given)
     expected.write_text(steps.expected)

@@ -12,6 +12,8 @@ use Rattle.text.specs.Output.{Put, most}
 use Rattle.text.proofs.Pieces.{measured, has-room, too-short}
 use Rattle.tle.specs.declared.Record.{Record}
 use Rattle.roster.specs.Roster.{rosterOf, isNone}
+use Rattle.roster.specs.Row.{rosterWith}
+use Rattle.roster.proofs.Rows.{with-row}
 use Rattle.changes_text.proofs.Lengths.{listings-fit}
 use Rattle.compare.specs.Compare.{textOf, comparedOf, comparedOver}
 use Rattle.compare.specs.Walk.{recordsIn, Holding}
@@ -60,3 +62,8 @@ module _ (a b : List ℕ) (A : Holding a) (B : Holding b) where
   written out after m h p =
       let l : length text ≤ length out = ltb-false (length out) (length text) h in
       rw (A .records, B .records) (rw (le-leb (length text) (length out) l) (ap compared.Written (measured p brief)), has-room p brief l)
+
+-- two rosters and their rows, where each is found with its row
+pub with-rows : (a b row1 row2 out after : List ℕ) (r : Compared) → isNone (rosterWith a row1) ≡ false → isNone (rosterWith b row2) ≡ false
+    → Compares (rosterOf a) (rosterOf b) out r after → Compares (rosterWith a row1) (rosterWith b row2) out r after
+with-rows a b row1 row2 out after r h g k = rw (with-row a row1 h, with-row b row2 g) k

@@ -15,11 +15,13 @@ use Rattle.tle.specs.declared.Reading.{Reading}
 use Rattle.tle.specs.declared.Reading.the-variants as reading
 use Rattle.roster.specs.Packed.{packed}
 use Rattle.roster.specs.Records.{Rising, end, next}
+use Rattle.roster.specs.Row.{rosterWith}
 use Rattle.roster.specs.Roster.{pairBytes, allZero, rosterOf, isNone}
 use Rattle.roster.proofs.Tests.{replicate-zero}
 use Rattle.roster.proofs.Pairs.{length-pair, pair-nonzero, read-front}
-use Rattle.roster.proofs.Decode.{places, one-more, Decoded, roster-sound}
-use Rattle.roster.proofs.Packing.{length-packed}
+use Rattle.roster.proofs.Decode.{places, Decoded, roster-sound}
+use Rattle.roster.proofs.Rows.{with-row}
+use Rattle.roster.proofs.Packing.{length-packed, one-more}
 use Rattle.compare.specs.Walk.{recordsIn, Holding, front, StandsAt}
 use Rattle.compare.specs.declared.Place.{Place}
 use Rattle.compare.specs.declared.Place.the-variants as place
@@ -40,7 +42,7 @@ places-drop (suc i) (suc k) (r ∷ rs) h g =
     let far : suc i * 138 ≡ 138 + i * 138 = omega arith in
     let e : suc k - suc i ≡ k - i = omega arith in
     ap (λ (m : ℕ). drop m (places (suc k) (r ∷ rs))) far ∙ sym (drop-drop (i * 138) 138 (places (suc k) (r ∷ rs)))
-    ∙ ap (drop (i * 138)) (ap (drop 138) (one-more k r rs) ∙ drop-at (pairBytes r) (places k rs) 138 (length-pair r))
+    ∙ ap (drop (i * 138)) (ap (drop 138) (one-more pairBytes 138 length-pair k r rs) ∙ drop-at (pairBytes r) (places k rs) 138 (length-pair r))
     ∙ places-drop i k rs (omega arith) (omega arith) ∙ ap (λ (m : ℕ). places m (drop i rs)) (sym e)
 
 abbrev Legal : Place → Type 0
@@ -81,7 +83,7 @@ module _ (b : List ℕ) (H : Holding b) where
     zeros e = rw (rest, e) (replicate-zero ((64 - i - 0) * 138))
 
     pair : (q : Record) (qs : List Record) → drop i (recordsIn b) ≡ q ∷ qs → drop (i * 138) b ≡ pairBytes q ++ places (64 - (i + 1)) qs
-    pair q qs e = rest ∙ rw (e, left) (one-more (64 - (i + 1)) q qs)
+    pair q qs e = rest ∙ rw (e, left) (one-more pairBytes 138 length-pair (64 - (i + 1)) q qs)
 
     empty-by : (rs : List Record) → drop i (recordsIn b) ≡ rs → allZero (drop (i * 138) b) ≡ true → place.Empty ≡ front rs
     empty-by [] e h = refl
@@ -151,5 +153,5 @@ held-by b (some rs) e h =
     let d = roster-sound b rs e in
     record { records = rw e; long = ap length (d .bytes) ∙ length-packed pairBytes 138 length-pair 64 rs (d .room) }
 
-pub holding : (b : List ℕ) → isNone (rosterOf b) ≡ false → Holding b
-holding b h = held-by b (rosterOf b) refl h
+pub holding : (b row : List ℕ) → isNone (rosterWith b row) ≡ false → Holding b
+holding b row h = held-by b (rosterOf b) refl (ap isNone (sym (with-row b row h)) ∙ h)

@@ -8,7 +8,7 @@ ghost use lib.Dec.{eqb, ltb};
 ghost use lib.ListN.{length, take, drop};
 ghost use Rattle.text.specs.Output.{Put};
 ghost use Rattle.listing.specs.Listing.{then};
-ghost use Rattle.roster.specs.Roster.{rosterOf};
+ghost use Rattle.roster.specs.Row.{rosterWith};
 ghost use Rattle.compare.specs.Compare.{comparedNumber, textOf, comparedOf, comparedOver};
 ghost use Rattle.compare.specs.Walk.{recordsIn, Holding, front, Stands, StandsAt, turnText, firstPassed, secondPassed, pairsText, pairsFirst, pairsSecond, Turned};
 use field_lines::put_fields;
@@ -29,7 +29,8 @@ pub enum Which {
 pub enum Compared {
     // How many bytes the listing has.
     Written(usize),
-    // 22: the buffer is no roster or has another length.
+    // 22: the buffer is no roster or has another length, or its row has another length or disagrees with
+    // the pairs.
     NoRoster(Which),
     // 17
     RoomTooShort,
@@ -223,15 +224,15 @@ fn lacks_room(a: &[u8], b: &[u8], room: usize) -> bool
     room < size
 }
 
-// What changed from the first roster to the second: the listing at the front of the room. A refusal leaves
-// the room as it was.
-pub fn compare(first: &[u8], second: &[u8], out: &mut [u8]) -> Compared
-    ensures { λ r. ⌜ (r ≡ comparedOf (rosterOf (now (first .entry))) (rosterOf (now (second .entry))) (length (now (out .entry)))) × (now (out .exit) ≡ comparedOver (rosterOf (now (first .entry))) (rosterOf (now (second .entry))) (now (out .entry))) ⌝ }
+// What changed from the first roster to the second, each with its row: the listing at the front of the
+// room. A refusal leaves the room as it was.
+pub fn compare(first: &[u8], row1: &[u64], second: &[u8], row2: &[u64], out: &mut [u8]) -> Compared
+    ensures { λ r. ⌜ (r ≡ comparedOf (rosterWith (now (first .entry)) (now (row1 .entry))) (rosterWith (now (second .entry)) (now (row2 .entry))) (length (now (out .entry)))) × (now (out .exit) ≡ comparedOver (rosterWith (now (first .entry)) (now (row1 .entry))) (rosterWith (now (second .entry)) (now (row2 .entry))) (now (out .entry))) ⌝ }
 {
-    if is_no_roster(first) {
+    if is_no_roster(first, row1) {
         return Compared::NoRoster(Which::First);
     }
-    if is_no_roster(second) {
+    if is_no_roster(second, row2) {
         return Compared::NoRoster(Which::Second);
     }
     if lacks_room(first, second, out.len()) {

@@ -15,9 +15,9 @@ ghost use Rattle.changes.specs.Entry.{sameℤ, sameClass, sameDesignator, sameS
 ghost use Rattle.changes.specs.Changes.{fields};
 ghost use Rattle.changes_text.specs.Text.{spelled};
 ghost use Rattle.field_lines.specs.Lines.{named, unlessLine, shapeText, countsText, fieldsText};
-use instant::Epoch;
 use listing::put_designator;
 use listing::put_scaled;
+use roster::instant_of;
 use text::put_byte;
 use text::put_bytes;
 use text::put_decimal;
@@ -26,7 +26,6 @@ use tle::Class;
 use tle::Designator;
 use tle::Record;
 use tle::Scaled;
-use tle::epoch;
 use tle::legal;
 
 // The number and the label, each with a blank behind it.
@@ -189,11 +188,7 @@ fn micros_of(r: Record) -> u64
     requires { ⌜ legal r ≡ true ⌝ }
     ensures { λ t. ⌜ t ≡ instantOf r ⌝ }
 {
-    let e = epoch(r);
-    match e {
-        Epoch::At(t) => t.0,
-        Epoch::Outside => 0,
-    }
+    instant_of(r).0
 }
 
 fn put_shape(out: &mut [u8], at: usize, n: u64, a: Record, b: Record) -> usize

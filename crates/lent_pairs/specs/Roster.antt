@@ -1,9 +1,10 @@
--- A roster in memory that is lent: a pair lodged there, and a number withdrawn. Definitions only.
+-- A roster in memory that is lent, with its row: a pair lodged there, a number withdrawn, and the row filled. Definitions only.
 use Prim.Native.Nat.{ℕ}
-use Rattle.roster.specs.Calls.{withdrawalNumber}
-use Rattle.roster.specs.declared.Lodging.{Lodging}
-use Rattle.roster.specs.declared.Lodging.the-variants as lodging
-use Rattle.roster.specs.declared.Withdrawal.{Withdrawal}
+use Rattle.roster_calls.specs.Calls.{withdrawalNumber, fillingNumber}
+use Rattle.roster_calls.specs.declared.Lodging.{Lodging}
+use Rattle.roster_calls.specs.declared.Lodging.the-variants as lodging
+use Rattle.roster_calls.specs.declared.Withdrawal.{Withdrawal}
+use Rattle.roster_calls.specs.declared.Filling.{Filling}
 use Rattle.answers.specs.Answer.{answer}
 use Rattle.answers.specs.Refusals.{refusalAnswer, ColumnFits}
 
@@ -18,6 +19,10 @@ lodgingAnswer lodging.Full = answer 19 0 0 0
 -- 22, then 21
 unfoldable pub withdrawalAnswer : Withdrawal → ℕ
 withdrawalAnswer w = answer (withdrawalNumber w) 0 0 0
+
+-- 22
+unfoldable pub fillingAnswer : Filling → ℕ
+fillingAnswer f = answer (fillingNumber f) 0 0 0
 
 -- a column of a line, as ColumnFits
 abbrev pub UnreadFits : Lodging → Type 0

@@ -7,10 +7,10 @@ ghost use Rattle.tle.specs.Read.{readOf};
 ghost use Rattle.text.specs.Output.{fronted};
 ghost use Rattle.listing.specs.Listing as T;
 ghost use Rattle.record_numbers.specs.Numbers.{givenOf};
-ghost use Rattle.roster.specs.Calls.{lodgingOf, lodgedOver, withdrawalOf, withdrawnOver};
+ghost use Rattle.roster_calls.specs.Calls.{lodgingOf, lodgedOver, lodgedRow, withdrawalOf, withdrawnOver, withdrawnRow, fillingOf, filledRow};
 ghost use Rattle.lent_pairs.specs.Pairs as P;
 ghost use Rattle.lent_pairs.specs.Records as C;
-ghost use Rattle.lent_pairs.specs.Roster.{lodgingAnswer, withdrawalAnswer, UnreadFits};
+ghost use Rattle.lent_pairs.specs.Roster.{lodgingAnswer, withdrawalAnswer, fillingAnswer, UnreadFits};
 use answers::answer;
 use answers::refusal_answer;
 use instant::Epoch;
@@ -19,9 +19,10 @@ use listing::print_pair;
 use record_numbers::Given;
 use record_numbers::record_of;
 use record_numbers::store_record;
-use roster::Lodging;
-use roster::lodge;
-use roster::withdraw;
+use roster_calls::Lodging;
+use roster_calls::fill_row;
+use roster_calls::lodge;
+use roster_calls::withdraw;
 use tle::Line;
 use tle::Reading;
 use tle::Record;
@@ -135,18 +136,28 @@ fn lodging_answer(a: Lodging) -> u64
     }
 }
 
-// Lodges the pair of two lines in the roster.
-pub fn lodge_answer(roster: &mut [u8], line1: &[u8], line2: &[u8]) -> u64
-    ensures { λ r. ⌜ r ≡ lodgingAnswer (lodgingOf (now (roster .entry)) (now (line1 .entry)) (now (line2 .entry))) ⌝ }
-    ensures { λ _. ⌜ now (roster .exit) ≡ lodgedOver (now (roster .entry)) (now (line1 .entry)) (now (line2 .entry)) ⌝ }
+// Lodges the pair of two lines in the roster, and its instant in the row beside it.
+pub fn lodge_answer(roster: &mut [u8], row: &mut [u64], line1: &[u8], line2: &[u8]) -> u64
+    ensures { λ r. ⌜ r ≡ lodgingAnswer (lodgingOf (now (roster .entry)) (now (row .entry)) (now (line1 .entry)) (now (line2 .entry))) ⌝ }
+    ensures { λ _. ⌜ now (roster .exit) ≡ lodgedOver (now (roster .entry)) (now (row .entry)) (now (line1 .entry)) (now (line2 .entry)) ⌝ }
+    ensures { λ _. ⌜ now (row .exit) ≡ lodgedRow (now (roster .entry)) (now (row .entry)) (now (line1 .entry)) (now (line2 .entry)) ⌝ }
 {
-    lodging_answer(lodge(roster, line1, line2))
+    lodging_answer(lodge(roster, row, line1, line2))
 }
 
-// Withdraws the pair of a catalogue number from the roster.
-pub fn withdraw_answer(roster: &mut [u8], number: u64) -> u64
-    ensures { λ r. ⌜ r ≡ withdrawalAnswer (withdrawalOf (now (roster .entry)) number) ⌝ }
-    ensures { λ _. ⌜ now (roster .exit) ≡ withdrawnOver (now (roster .entry)) number ⌝ }
+// Withdraws the pair of a catalogue number from the roster, and its instant from the row beside it.
+pub fn withdraw_answer(roster: &mut [u8], row: &mut [u64], number: u64) -> u64
+    ensures { λ r. ⌜ r ≡ withdrawalAnswer (withdrawalOf (now (roster .entry)) (now (row .entry)) number) ⌝ }
+    ensures { λ _. ⌜ now (roster .exit) ≡ withdrawnOver (now (roster .entry)) (now (row .entry)) number ⌝ }
+    ensures { λ _. ⌜ now (row .exit) ≡ withdrawnRow (now (roster .entry)) (now (row .entry)) number ⌝ }
 {
-    withdraw(roster, number).number()
+    withdraw(roster, row, number).number()
+}
+
+// Fills the row of a roster that was kept without one, whatever the row held.
+pub fn fill_answer(roster: &[u8], row: &mut [u64]) -> u64
+    ensures { λ r. ⌜ r ≡ fillingAnswer (fillingOf (now (roster .entry)) (now (row .entry))) ⌝ }
+    ensures { λ _. ⌜ now (row .exit) ≡ filledRow (now (roster .entry)) (now (row .entry)) ⌝ }
+{
+    fill_row(roster, row).number()
 }

@@ -2,34 +2,29 @@
 use Prim.Native.Nat.{ℕ, zero, suc, _+_, _-_, _*_, _≤_}
 use mathlib.Core.Path.{_≡_, refl, ap, sym, _∙_}
 use mathlib.Core.Bool.{Bool, true, false, cond}
-use mathlib.Core.List.{List, [], _∷_, _++_, append-assoc, flatMap}
+use mathlib.Core.List.{List, [], _∷_, _++_, flatMap}
 use mathlib.Core.Option.{Option, none, some, Option·some-injective, Option·none-ne-some}
 use native.Mathlib.Omega.{arith}
 use borrow.Author.Tests.{eq-eqb, eqb-true, leb-true}
 use lib.Dec.{eqb, leb}
-use lib.ListN.{length, take, drop, replicate, length-drop, take-append-drop}
+use lib.ListN.{length, take, drop, replicate, getElem?, length-drop, take-append-drop}
 use lib.Seq.{take-at, drop-at}
+use Rattle.tle.specs.Legal.{legal}
+use Rattle.tle.specs.Read.{readOf}
 use Rattle.tle.specs.declared.Record.{Record}
 use Rattle.roster.specs.Packed.{packed}
 use Rattle.roster.specs.Records.{Rising, end, next}
 use Rattle.roster.specs.Roster.{pairBytes, bytesOf, allZero, placeOf, inFront, followed, pairsIn, rosterOf}
-use Rattle.roster.specs.Claims.{RostersExactly}
+use Rattle.roster.specs.Claims.{RostersExactly, readAt, PlacesRead}
 use Rattle.roster.specs.declared.places.Place.{Place}
 use Rattle.roster.specs.declared.places.Place.the-variants as place
 use Rattle.roster.proofs.Tests.{zero-replicate, replicate-zero}
-use Rattle.roster.proofs.Pairs.{length-pair, place-back, place-sound, pair-nonzero}
+use Rattle.roster.proofs.Pairs.{length-pair, read-front, place-back, place-sound, pair-nonzero}
 use Rattle.roster.proofs.Passes.{ended, paired}
-use Rattle.roster.proofs.Packing.{length-packed}
+use Rattle.roster.proofs.Packing.{length-packed, one-more, place-of}
 
 abbrev pub places : ℕ → List Record → List ℕ
 places k rs = packed pairBytes 138 k rs
-
--- the first place, and the others
-pub one-more : (k : ℕ) (r : Record) (rs : List Record) → places (suc k) (r ∷ rs) ≡ pairBytes r ++ places k rs
-unfolding packed flatMap
-one-more k r rs =
-    let e : suc k - suc (length rs) ≡ k - length rs = omega arith in
-    rw e (append-assoc (pairBytes r) (flatMap pairBytes rs) (replicate ((k - length rs) * 138) 0))
 
 -- ── from records to bytes and back ──
 
@@ -39,7 +34,7 @@ pairs-back k {low = low} end h = ended k low (replicate ((k - 0) * 138) 0) (repl
 pairs-back zero (next g l q) h = absurd (omega arith)
 pairs-back (suc k) {low = low} (next {r = r} {rs = rs} g l q) h =
     let b = pairBytes r ++ places k rs in
-    rw (one-more k r rs)
+    rw (one-more pairBytes 138 length-pair k r rs)
     (paired k low b (pair-nonzero r (places k rs)) r (ap placeOf (take-at (pairBytes r) (places k rs) 138 (length-pair r)) ∙ place-back r l) g
     ∙ ap (λ (d : List ℕ). inFront r (pairsIn k (r .number + 1) d)) (drop-at (pairBytes r) (places k rs) 138 (length-pair r))
     ∙ ap (inFront r) (pairs-back k q (omega arith)))
@@ -73,7 +68,7 @@ in-front k low b r qs rs long p h d e =
     let n = Option·some-injective (r ∷ qs) rs e in
     let s = place-sound (take 138 b) r p in
     rw (← n) (record {
-      bytes = sym (take-append-drop 138 b) ∙ ap (λ (t : List ℕ). t ++ drop 138 b) (s .0) ∙ ap (λ (t : List ℕ). pairBytes r ++ t) (d .bytes) ∙ sym (one-more k r qs);
+      bytes = sym (take-append-drop 138 b) ∙ ap (λ (t : List ℕ). t ++ drop 138 b) (s .0) ∙ ap (λ (t : List ℕ). pairBytes r ++ t) (d .bytes) ∙ sym (one-more pairBytes 138 length-pair k r qs);
       rising = next h (s .1) (d .rising);
       room = omega (arith, d .room);
     })
@@ -120,3 +115,19 @@ roster-sound b rs e = by-length (eqb (length b) 8832) b rs refl e
 
 pub exactly : RostersExactly
 exactly b rs = (λ e. let d = roster-sound b rs e in (d .bytes, d .rising, d .room), λ k. rw (k .0) (roster-back rs (k .1) (k .2)))
+
+-- ── demand 2 ──
+
+legal-at : {low : ℕ} {rs : List Record} (i : ℕ) (r : Record) → Rising low rs → getElem? rs i ≡ some r → legal r ≡ true
+legal-at i r end e = absurd (Option·none-ne-some r e)
+legal-at zero r (next {r = s} g l q) e = ap legal (sym (Option·some-injective s r e)) ∙ l
+legal-at (suc i) r (next g l q) e = legal-at i r q e
+
+pub places-read : PlacesRead
+unfolding packed
+places-read b rs i r e g =
+    let d = roster-sound b rs e in
+    let p = place-of pairBytes 138 length-pair rs _ i r g in
+    ap (readAt i) (d .bytes)
+    ∙ ap (λ (l : List ℕ). readOf (take 69 l) (take 69 (drop 69 l))) (p .1)
+    ∙ read-front r (p .0) (legal-at i r (d .rising) g)

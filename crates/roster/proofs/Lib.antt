@@ -1,5 +1,4 @@
 -- Laws that the proofs of the functions share; those that other crates use are pub.
-mod Shifts
 pub mod Tests
 pub mod Pairs
 pub mod Packing
@@ -7,6 +6,5 @@ pub mod Epochs
 mod Passes
 pub mod Sorted
 pub mod Decode
-mod Found
-mod Standing
-pub mod Kept
+pub mod Rows
+pub mod Found

@@ -47,6 +47,13 @@ module _ (f : Record → List ℕ) (w : ℕ) (wide : (r : Record) → length (f 
   unfolding packed
   length-packed k rs h = length-append (flatMap f rs) (pad k (length rs)) ∙ rw (length-flatMap rs) (length-pad k (length rs) h)
 
+  -- the first place, and the others
+  pub one-more : (k : ℕ) (r : Record) (rs : List Record) → packed f w (suc k) (r ∷ rs) ≡ f r ++ packed f w k rs
+  unfolding packed flatMap
+  one-more k r rs =
+      let e : suc k - suc (length rs) ≡ k - length rs = omega arith in
+      rw e (append-assoc (f r) (flatMap f rs) (replicate ((k - length rs) * w) 0))
+
   -- from the place of a record on, whatever z is behind them all
   pub place-of : (rs : List Record) (z : List ℕ) (i : ℕ) (r : Record) → getElem? rs i ≡ some r → (t : List ℕ) × (drop (i * w) (flatMap f rs ++ z) ≡ f r ++ t)
   unfolding flatMap

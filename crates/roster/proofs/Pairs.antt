@@ -4,7 +4,8 @@ use mathlib.Core.Path.{_≡_, refl, ap, sym, _∙_}
 use mathlib.Core.Bool.{Bool, true, false, cond}
 use mathlib.Core.List.{List, _++_, append-assoc, append-nil}
 use native.Mathlib.Omega.{arith}
-use lib.ListN.{length, take, drop, length-append, length-drop, drop-of-length-le}
+use borrow.Author.Tests.{le-leb, lt-leb}
+use lib.ListN.{length, take, drop, length-append, length-drop, drop-of-length-le, take-append-drop}
 use lib.Seq.{length-take-le, take-at, drop-at, take-all}
 use Rattle.tle.specs.Legal.{legal}
 use Rattle.tle.specs.Read.{readOf}
@@ -17,12 +18,12 @@ use Rattle.tle.specs.declared.Line.the-variants.{One, Two}
 use Rattle.tle.proofs.Accepted.{accepted-are-legal}
 use Rattle.tle_writer.specs.Lines.{lineOf, bodyOf, closedOf, join}
 use Rattle.tle_writer.specs.Over.{over}
-use Rattle.tle_writer.specs.Write.{writtenOver}
+use Rattle.tle_writer.specs.Write.{writingOf, writtenOver}
 use Rattle.tle_writer.proofs.Overs.{and}
 use Rattle.tle_writer.proofs.Writes.{written, exactly, length-line}
 use Rattle.tle_writer.proofs.Round.{read-back}
 use Rattle.tle_writer.proofs.Facts.{facts}
-use Rattle.roster.specs.Roster.{pairBytes, allZero, same, asWritten, placeOf}
+use Rattle.roster.specs.Roster.{pairBytes, pairOver, allZero, same, asWritten, placeOf}
 use Rattle.roster.specs.declared.places.Place.the-variants as place
 use Rattle.roster.proofs.Tests.{same-equal, same-refl}
 
@@ -44,7 +45,7 @@ length-over at w ys l h e =
 part-long : (at w : ℕ) (l : List ℕ) → at + w ≤ length l → length (take w (drop at l)) ≡ w
 part-long at w l h = length-take-le w (drop at l) (rw length-drop (omega arith))
 
-pub put-both : (r : Record) (at : ℕ) (l p q : List ℕ) → legal r ≡ true → at + 138 ≤ length l
+put-both : (r : Record) (at : ℕ) (l p q : List ℕ) → legal r ≡ true → at + 138 ≤ length l
     → p ≡ writtenOver r One (take (at + 69 - at) (drop at l))
     → q ≡ writtenOver r Two (take (at + 138 - (at + 69)) (drop (at + 69) (over at (at + 69 - at) p l)))
     → over (at + 69) (at + 138 - (at + 69)) q (over at (at + 69 - at) p l) ≡ over at 138 (pairBytes r) l
@@ -58,6 +59,33 @@ put-both r at l p q h g e f =
     rw (n, m, e', f')
     (and {at = at} {w = 69} {v = 69} {from = at + 69} {xs = lineOf One r} {ys = lineOf Two r} {line = l}
     refl (omega arith) (record { is = refl; wide = length-line One r }) (record { is = refl; wide = length-line Two r }) .is)
+
+-- nothing is put where there is no room, or where the record cannot be written
+pub no-room : (r : Record) (at : ℕ) (l : List ℕ) → length l < at + 138 → l ≡ pairOver at r l
+unfolding pairOver
+no-room r at l h = rw (lt-leb (at + 138) (length l) h)
+
+unwritten : (r : Record) (which : Line) (at w : ℕ) (l p : List ℕ) → legal r ≡ false → p ≡ writtenOver r which (take w (drop at l)) → over at w p l ≡ l
+unfolding writtenOver writingOf over
+unwritten r which at w l p h e =
+    let q : p ≡ take w (drop at l) = e ∙ rw h in
+    rw (q, take-append-drop w (drop at l), take-append-drop at l)
+
+pub put-pair-over : (x : Bool) (r : Record) (at : ℕ) (l p q : List ℕ) → legal r ≡ x → at + 138 ≤ length l
+    → p ≡ writtenOver r One (take (at + 69 - at) (drop at l))
+    → q ≡ writtenOver r Two (take (at + 138 - (at + 69)) (drop (at + 69) (over at (at + 69 - at) p l)))
+    → over (at + 69) (at + 138 - (at + 69)) q (over at (at + 69 - at) p l) ≡ pairOver at r l
+unfolding pairOver
+put-pair-over true r at l p q h g e f = rw (le-leb (at + 138) (length l) g, h) (put-both r at l p q h g e f)
+put-pair-over false r at l p q h g e f =
+    let m = over at (at + 69 - at) p l in
+    rw (le-leb (at + 138) (length l) g, h)
+    (unwritten r Two (at + 69) (at + 138 - (at + 69)) m q h f ∙ unwritten r One at (at + 69 - at) l p h e)
+
+-- a legal record where there is room
+pub pair-over : (r : Record) (at : ℕ) (l : List ℕ) → legal r ≡ true → at + 138 ≤ length l → pairOver at r l ≡ over at 138 (pairBytes r) l
+unfolding pairOver
+pair-over r at l h g = rw (le-leb (at + 138) (length l) g, h)
 
 -- ── a place ──
 
@@ -110,9 +138,9 @@ number-fits r h = omega (arith, facts r h .number)
 -- ── as the code finds them ──
 
 -- all of a room of one pair
-pub whole : (l : List ℕ) (r : Record) → length l ≡ 138 → over 0 138 (pairBytes r) l ≡ pairBytes r
+pub whole : (l : List ℕ) (r : Record) → length l ≡ 138 → legal r ≡ true → pairOver 0 r l ≡ pairBytes r
 unfolding over
-whole l r h = rw (drop-of-length-le l {i = 138} (omega arith)) (append-nil (pairBytes r))
+whole l r h k = pair-over r 0 l k (omega arith) ∙ rw (drop-of-length-le l {i = 138} (omega arith)) (append-nil (pairBytes r))
 
 module _ (p : List ℕ) (long : length p ≡ 138) (g : Reading) (read : g ≡ readOf (take 69 p) (take 69 (drop 69 p))) where
   both-lines : g ≡ readOf (take 69 p) (drop 69 p)

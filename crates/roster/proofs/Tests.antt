@@ -53,6 +53,27 @@ unfolding same
 same-refl [] = refl
 same-refl (x ∷ a) = rw (eq-eqb x x refl) (same-refl a)
 
+-- place by place
+pub same-off : (a b : List ℕ) → (length a ≡ length b → ⊥) → false ≡ same a b
+same-off a b h = by (same a b) refl
+  where
+    by : (x : Bool) → same a b ≡ x → false ≡ x
+    by true e = absurd (h (ap length (same-equal a b e)))
+    by false e = refl
+
+module _ (a b : List ℕ) (i : ℕ) (h : i < length a) (g : i < length b) where
+  pub same-more : getD a i 0 ≡ getD b i 0 → same (drop i a) (drop i b) ≡ same (drop (i + 1) a) (drop (i + 1) b)
+  unfolding same
+  same-more e = rw (add-one, drop-cons a i 0 h, drop-cons b i 0 g, eq-eqb (getD a i 0) (getD b i 0) e)
+
+  pub same-stop : (getD a i 0 ≡ getD b i 0 → ⊥) → false ≡ same (drop i a) (drop i b)
+  unfolding same
+  same-stop n = rw (drop-cons a i 0 h, drop-cons b i 0 g, ne-eqb (getD a i 0) (getD b i 0) n)
+
+pub same-end : (a b : List ℕ) (i : ℕ) → length a ≤ i → length b ≤ i → true ≡ same (drop i a) (drop i b)
+unfolding same
+same-end a b i h g = rw (drop-of-length-le a {i = i} h, drop-of-length-le b {i = i} g)
+
 -- a test that holds of equal bytes alone
 pub same-as : (x y : Bool) (a b : List ℕ) → same a b ≡ y → (x ≡ true → a ≡ b) → (a ≡ b → x ≡ true) → x ≡ y
 same-as x true a b h f g = g (same-equal a b h)

@@ -1,7 +1,7 @@
 pub mod Records
 pub mod Packed
 pub mod Roster
-pub mod Calls
+pub mod Row
 pub mod Claims
 pub mod Examples
 pub mod Scan

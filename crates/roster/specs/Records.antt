@@ -6,6 +6,8 @@ use mathlib.Core.List.{List, [], _∷_}
 use mathlib.Core.Option.{Option, none, some}
 use lib.Dec.{eqb, ltb}
 use Rattle.instant.specs.Calendar.{epochMicros}
+use Rattle.instant.specs.declared.Epoch.{Epoch}
+use Rattle.instant.specs.declared.Epoch.the-variants as epoch
 use Rattle.tle.specs.Legal.{legal}
 use Rattle.tle.specs.declared.Record.{Record}
 
@@ -22,6 +24,11 @@ lookup n (r ∷ rs) = cond (eqb (r .number) n) (some r) (lookup n rs)
 -- the epoch as an instant: two epochs are compared so
 unfoldable pub instantOf : Record → ℕ
 instantOf r = epochMicros (r .year) (r .day)
+
+-- the instant that an epoch is, 0 for one outside the calendar: of a legal record, its instant
+abbrev pub micros : Epoch → ℕ
+micros (epoch.At t) = t .0
+micros epoch.Outside = 0
 
 -- "Lodging a pair replaces the one of that number"; else it stands in order
 unfoldable pub lodged : Record → List Record → List Record

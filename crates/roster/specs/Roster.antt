@@ -5,12 +5,14 @@ use mathlib.Core.List.{List, [], _∷_, _++_}
 use mathlib.Core.Option.{Option, none, some}
 use lib.Dec.{eqb, leb}
 use lib.ListN.{length, take, drop}
+use Rattle.tle.specs.Legal.{legal}
 use Rattle.tle.specs.Read.{readOf}
 use Rattle.tle.specs.declared.Record.{Record}
 use Rattle.tle.specs.declared.Reading.{Reading}
 use Rattle.tle.specs.declared.Reading.the-variants as reading
 use Rattle.tle.specs.declared.Line.the-variants.{One, Two}
 use Rattle.tle_writer.specs.Lines.{lineOf}
+use Rattle.tle_writer.specs.Over.{over}
 use Rattle.roster.specs.Packed.{packed}
 use Rattle.roster.specs.declared.places.Place.{Place}
 use Rattle.roster.specs.declared.places.Place.the-variants as place
@@ -18,6 +20,10 @@ use Rattle.roster.specs.declared.places.Place.the-variants as place
 -- a pair "as written by us": line 1 and line 2, 138 bytes
 unfoldable pub pairBytes : Record → List ℕ
 pairBytes r = lineOf One r ++ lineOf Two r
+
+-- a pair written over the 138 bytes of l after the first at: nothing where there are none, or the record cannot be written
+unfoldable pub pairOver : ℕ → Record → List ℕ → List ℕ
+pairOver at r l = cond (leb (at + 138) (length l)) (cond (legal r) (over at 138 (pairBytes r) l) l) l
 
 -- "up to 64 pairs .. packed from the front, zeros after": 8,832 bytes
 abbrev pub bytesOf : List Record → List ℕ

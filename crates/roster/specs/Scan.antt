@@ -1,31 +1,28 @@
--- What one pass over a buffer finds of a number. Cited by the contracts inside the crate only.
+-- What one pass over a buffer finds of a number, with the instants of its pairs.
 use Prim.Native.Nat.{ℕ, _+_}
-use mathlib.Core.Bool.{cond}
+use mathlib.Core.Bool.{true, false, cond}
 use mathlib.Core.List.{List, [], _∷_}
 use mathlib.Core.Option.{Option, none, some}
 use lib.Dec.{eqb, ltb}
+use lib.ListN.{replicate}
 use Rattle.tle.specs.declared.Record.{Record}
-use Rattle.roster.specs.Records.{instantOf}
 use Rattle.roster.specs.Roster.{rosterOf}
-use Rattle.roster.specs.declared.scan.Held.{Held}
-use Rattle.roster.specs.declared.scan.Held.the-variants as held
+use Rattle.roster.specs.Row.{rowOf, rosterWith}
 use Rattle.roster.specs.declared.scan.Tally.{Tally}
 use Rattle.roster.specs.declared.scan.Scanned.{Scanned}
 use Rattle.roster.specs.declared.scan.Scanned.the-variants as scanned
+use Rattle.roster.specs.declared.scan.Contents.{Contents}
 
-abbrev pub heldAs : Record → Held
-heldAs r = held.Epoch (record { 0 = instantOf r })
-
--- how many pairs, how many below the number, what stands under it, and the least number that may come next
+-- how many pairs, how many below the number, whether one has it, and the least number that may come next
 abbrev pub start : ℕ → Tally
-start n = record { number = n; count = 0; below = 0; held = held.Nothing; low = 0 }
+start n = record { number = n; count = 0; below = 0; present = false; low = 0 }
 
 unfoldable pub tallied : Tally → Record → Tally
 tallied t r = record {
   number = t .number;
   count = t .count + 1;
   below = cond (ltb (r .number) (t .number)) (t .below + 1) (t .below);
-  held = cond (eqb (r .number) (t .number)) (heldAs r) (t .held);
+  present = cond (eqb (r .number) (t .number)) true (t .present);
   low = r .number + 1;
 }
 
@@ -38,5 +35,17 @@ abbrev pub resumed : Tally → Option (List Record) → Scanned
 resumed t none = scanned.NoRoster
 resumed t (some rs) = scanned.Roster (tallies t rs)
 
-unfoldable pub scanOf : ℕ → List ℕ → Scanned
-scanOf n b = resumed (start n) (rosterOf b)
+-- the row of a roster that was found; zeros where there is none
+abbrev pub rowIn : Option (List Record) → List ℕ
+rowIn none = replicate 64 0
+rowIn (some rs) = rowOf rs
+
+abbrev pub scannedOf : ℕ → Option (List Record) → Contents
+scannedOf n o = record { found = resumed (start n) o; row = rowIn o }
+
+unfoldable pub scanOf : ℕ → List ℕ → Contents
+scanOf n b = scannedOf n (rosterOf b)
+
+-- the same of a buffer and the row beside it
+unfoldable pub judgedOf : ℕ → List ℕ → List ℕ → Scanned
+judgedOf n b row = resumed (start n) (rosterWith b row)

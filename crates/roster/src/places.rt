@@ -2,11 +2,9 @@
 
 ghost use mathlib.Core.Path.{_≡_};
 ghost use mathlib.Core.Bool.{true};
-ghost use Prim.Native.Nat.{_+_, _≤_};
 ghost use lib.ListN.{length};
 ghost use Rattle.tle.specs.Legal.{legal};
-ghost use Rattle.tle_writer.specs.Over.{over};
-ghost use Rattle.roster.specs.Roster.{allZero, same, pairBytes, placeOf};
+ghost use Rattle.roster.specs.Roster.{allZero, same, pairBytes, pairOver, placeOf};
 use tle::Line;
 use tle::Reading;
 use tle::Record;
@@ -32,11 +30,17 @@ pub fn all_zero(s: &[u8]) -> bool
     true
 }
 
-// The pair written over the 138 bytes after the first at.
-pub(crate) fn put_pair(b: &mut [u8], at: usize, r: Record)
-    requires { ⌜ (legal r ≡ true) × (at + 138 ≤ length (now b)) ⌝ }
-    ensures { λ _. ⌜ now (b .exit) ≡ over at 138 (pairBytes r) (now (b .entry)) ⌝ }
+// The pair written over the 138 bytes after the first at. Where there are none, or the record cannot be
+// written, nothing is.
+pub fn put_pair(b: &mut [u8], at: usize, r: Record)
+    ensures { λ _. ⌜ now (b .exit) ≡ pairOver at r (now (b .entry)) ⌝ }
 {
+    if b.len() < 138 {
+        return;
+    }
+    if b.len() - 138 < at {
+        return;
+    }
     let half = at + 69;
     let end = at + 138;
     fill_line(r, Line::One, &mut b[at..half]);

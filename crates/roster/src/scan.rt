@@ -1,14 +1,15 @@
-// One pass over a buffer: is it a roster, where does a number stand in it, and with which epoch?
+// One pass over a buffer: is it a roster, where does a number stand in it, and what are its instants?
 
 ghost use mathlib.Core.Path.{_≡_};
 ghost use mathlib.Core.Bool.{true, cond};
 ghost use Prim.Native.Nat.{_+_, _<_};
 ghost use lib.Dec.{eqb, ltb};
 ghost use lib.ListN.{length};
+ghost use Rattle.instant.specs.Calendar.{epochOf};
 ghost use Rattle.tle.specs.Legal.{legal};
-ghost use Rattle.roster.specs.Records.{instantOf};
-ghost use Rattle.roster.specs.Roster.{pairsIn};
-ghost use Rattle.roster.specs.Scan.{heldAs, start, tallied, resumed, scanOf};
+ghost use Rattle.roster.specs.Records.{micros};
+ghost use Rattle.roster.specs.Roster.{same, pairsIn};
+ghost use Rattle.roster.specs.Scan.{tallied, scannedOf, scanOf, judgedOf};
 use super::places::Place;
 use super::places::all_zero;
 use super::places::place_at;
@@ -17,19 +18,13 @@ use instant::Instant;
 use tle::Record;
 use tle::epoch;
 
-// What stands under a number: nothing, or a pair of this epoch.
-pub enum Held {
-    Nothing,
-    Epoch(Instant),
-}
-
-// Of the pairs passed: how many, how many below a number, and what stands under it; low is the least
+// Of the pairs passed: how many, how many below a number, and whether one has it; low is the least
 // number that may come next.
 pub struct Tally {
     pub number: u64,
     pub count: usize,
     pub below: usize,
-    pub held: Held,
+    pub present: bool,
     pub low: u64,
 }
 
@@ -38,10 +33,15 @@ pub enum Scanned {
     NoRoster,
 }
 
-// The record's epoch.
-pub(crate) fn instant_of(r: Record) -> Instant
-    requires { ⌜ legal r ≡ true ⌝ }
-    ensures { λ t. ⌜ t .0 ≡ instantOf r ⌝ }
+// What a pass found, and the instants of the pairs: 0 past the last, and zeros where it is no roster.
+pub struct Contents {
+    pub found: Scanned,
+    pub row: [u64; 64],
+}
+
+// The record's epoch, 0 where it is outside the calendar.
+pub fn instant_of(r: Record) -> Instant
+    ensures { λ t. ⌜ t .0 ≡ micros (epochOf (r .year) (r .day)) ⌝ }
 {
     let e = epoch(r);
     match e {
@@ -60,14 +60,13 @@ fn below_after(below: usize, number: u64, wanted: u64) -> usize
     below
 }
 
-fn held_after(held: Held, r: Record, wanted: u64) -> Held
-    requires { ⌜ legal r ≡ true ⌝ }
-    ensures { λ h. ⌜ h ≡ cond (eqb (r .number) wanted) (heldAs r) held ⌝ }
+fn present_after(present: bool, number: u64, wanted: u64) -> bool
+    ensures { λ p. ⌜ p ≡ cond (eqb number wanted) true present ⌝ }
 {
-    if r.number == wanted {
-        return Held::Epoch(instant_of(r));
+    if number == wanted {
+        return true;
     }
-    held
+    present
 }
 
 // One pair more.
@@ -75,56 +74,100 @@ fn counted(t: Tally, r: Record) -> Tally
     requires { ⌜ (t .count < 64) × (t .below < 64) × (legal r ≡ true) ⌝ }
     ensures { λ a. ⌜ a ≡ tallied t r ⌝ }
 {
-    let held = t.held;
     let below = below_after(t.below, r.number, t.number);
-    let held = held_after(held, r, t.number);
+    let present = present_after(t.present, r.number, t.number);
     Tally {
         number: t.number,
         count: t.count + 1,
         below,
-        held,
+        present,
         low: r.number + 1,
     }
 }
 
 // The places of a buffer of 8,832 bytes, one after the other.
-fn scan_places(b: &[u8], number: u64) -> Scanned
+fn scan_places(b: &[u8], number: u64) -> Contents
     requires { ⌜ length (now b) ≡ 8832 ⌝ }
-    ensures { λ s. ⌜ s ≡ resumed (start number) (pairsIn 64 0 (now (b .entry))) ⌝ }
+    ensures { λ s. ⌜ s ≡ scannedOf number (pairsIn 64 0 (now (b .entry))) ⌝ }
 {
     let mut t = Tally {
         number,
         count: 0,
         below: 0,
-        held: Held::Nothing,
+        present: false,
         low: 0,
     };
+    let mut row = [0u64; 64];
     let mut i = 0;
     while i < 64 {
         let at = i * 138;
         let end = at + 138;
         if all_zero(&b[at..]) {
-            return Scanned::Roster(t);
+            return Contents {
+                found: Scanned::Roster(t),
+                row,
+            };
         }
         let place = place_at(&b[at..end]);
         let Place::Pair(r) = place else {
-            return Scanned::NoRoster;
+            return Contents {
+                found: Scanned::NoRoster,
+                row: [0; 64],
+            };
         };
         if r.number < t.low {
-            return Scanned::NoRoster;
+            return Contents {
+                found: Scanned::NoRoster,
+                row: [0; 64],
+            };
         }
+        row[i] = instant_of(r).0;
         t = counted(t, r);
         i += 1;
     }
-    Scanned::Roster(t)
+    Contents {
+        found: Scanned::Roster(t),
+        row,
+    }
 }
 
-// Whether the buffer is a roster, and what it holds of the number.
-pub(crate) fn scan(b: &[u8], number: u64) -> Scanned
+// Whether the buffer is a roster, what it holds of the number, and its instants.
+pub fn scan_buffer(b: &[u8], number: u64) -> Contents
     ensures { λ s. ⌜ s ≡ scanOf number (now (b .entry)) ⌝ }
 {
     if b.len() != 8832 {
-        return Scanned::NoRoster;
+        return Contents {
+            found: Scanned::NoRoster,
+            row: [0; 64],
+        };
     }
     scan_places(b, number)
+}
+
+fn same_row(row: &[u64], instants: &[u64]) -> bool
+    ensures { λ r. ⌜ r ≡ same (now (row .entry)) (now (instants .entry)) ⌝ }
+{
+    if row.len() != instants.len() {
+        return false;
+    }
+    let mut i = 0;
+    while i < row.len() {
+        if row[i] != instants[i] {
+            return false;
+        }
+        i += 1;
+    }
+    true
+}
+
+// Whether the buffer is a roster and the row its instants, and what it holds of the number.
+pub fn judge(b: &[u8], row: &[u64], number: u64) -> Scanned
+    ensures { λ s. ⌜ s ≡ judgedOf number (now (b .entry)) (now (row .entry)) ⌝ }
+{
+    let s = scan_buffer(b, number);
+    let instants = s.row;
+    if same_row(row, &instants) {
+        return s.found;
+    }
+    Scanned::NoRoster
 }

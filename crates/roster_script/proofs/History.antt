@@ -11,7 +11,7 @@ use Rattle.tle.specs.Read.{readOf}
 use Rattle.tle.specs.declared.Record.{Record}
 use Rattle.tle.specs.declared.Reading.{Reading}
 use Rattle.tle.specs.declared.Reading.the-variants as reading
-use Rattle.roster_script.specs.Total.{Call, Lodge, Withdraw, Lodges, Withdraws, NoCall, LodgedIn, NotSinceWithdrawn, LastAccepted}
+use Rattle.roster_script.specs.Total.{Call, Lodge, Withdraw, Fill, Lodges, Withdraws, NoCall, LodgedIn, NotSinceWithdrawn, LastAccepted}
 
 -- ── what stands under n, call by call ──
 
@@ -23,6 +23,7 @@ lodges-over n (reading.Refused why) o = o
 abbrev pub effect : ℕ → Call → Option Record → Option Record
 effect n (Lodge line1 line2) o = lodges-over n (readOf line1 line2) o
 effect n (Withdraw m) o = cond (eqb m n) none o
+effect n Fill o = o
 
 unfoldable pub standing : ℕ → List Call → Option Record → Option Record
 standing n [] o = o
@@ -97,6 +98,7 @@ module _ (n : ℕ) (r : Record) (h : List Call) where
     by-call : (c : Call) → effect n c o ≡ some r → Came n r o (c ∷ h)
     by-call (Lodge line1 line2) f = by-reading (readOf line1 line2) line1 line2 refl f
     by-call (Withdraw m) f = by-withdrawal (eqb m n) m refl f
+    by-call Fill f = before f (λ z. z, w) (λ s k. (λ z. z, l s k))
 
 came-more : (n : ℕ) (r : Record) (c : Call) (h : List Call) (o : Option Record) → Came n r (effect n c o) h → Came n r o (c ∷ h)
 came-more n r c h o (before e w l) = by-call n r h w l o c e
@@ -135,6 +137,7 @@ still-read n (reading.Refused why) r = (r, refl)
 still-one : (n : ℕ) (c : Call) (r : Record) → (Withdraws n c → ⊥) → (s : Record) × (effect n c (some r) ≡ some s)
 still-one n (Lodge line1 line2) r h = still-read n (readOf line1 line2) r
 still-one n (Withdraw m) r h = (r, rw (ne-eqb m n h))
+still-one n Fill r h = (r, refl)
 
 still : (n : ℕ) (h : List Call) (r : Record) → NoCall (Withdraws n) h → (s : Record) × (standing n h (some r) ≡ some s)
 unfolding standing
@@ -148,6 +151,7 @@ still n (c ∷ h) r w =
 lodged-stands : (n : ℕ) (r : Record) (c : Call) (o : Option Record) → Lodges r c → r .number ≡ n → effect n c o ≡ some r
 lodged-stands n r (Lodge line1 line2) o g e = rw (g, eq-eqb (r .number) n e)
 lodged-stands n r (Withdraw m) o g e = absurd g
+lodged-stands n r Fill o g e = absurd g
 
 pub stands : (n : ℕ) (h : List Call) → NotSinceWithdrawn n h → (s : Record) × (standing n h none ≡ some s)
 unfolding standing

@@ -9,7 +9,7 @@ use borrow.Author.Tests.{lt-ltb, le-ltb, le-leb, lt-leb, ltb-true, ltb-false, le
 use lib.Dec.{leb, ltb}
 use lib.ListN.{length, take, drop, set, getD, length-drop, length-set, take-append-drop}
 use lib.Seq.{drop-cons, drop-drop, take-suc-set, drop-set-lt, append-snoc}
-use Rattle.roster_script.specs.Total.{Call, Lodge, Withdraw, answerTo, after, answersTo, afterAll}
+use Rattle.roster_script.specs.Total.{Call, Lodge, Withdraw, Fill, Lent, lent, answerTo, after, answersTo, afterAll}
 use Rattle.roster_script.specs.Script.{callOf, taken, script, needed}
 
 -- ── one call ──
@@ -31,16 +31,26 @@ call-lodge zero a b at text h =
     rw (e, f, drop-drop a at text)
 call-lodge (suc kind) a b at text h = absurd (omega arith)
 
-pub call-withdraw : (kind a b : ℕ) (text : List ℕ) → (kind ≡ 0 → ⊥) → Withdraw a ≡ callOf kind a b text
-call-withdraw zero a b text h = absurd (h refl)
-call-withdraw (suc kind) a b text h = refl
+pub call-withdraw : (kind a b : ℕ) (text : List ℕ) → kind ≡ 1 → Withdraw a ≡ callOf kind a b text
+call-withdraw zero a b text h = absurd (omega arith)
+call-withdraw (suc zero) a b text h = refl
+call-withdraw (suc (suc kind)) a b text h = absurd (omega arith)
+
+pub call-fill : (kind a b : ℕ) (text : List ℕ) → (kind ≡ 1 → ⊥) → (kind ≡ 0 → ⊥) → Fill ≡ callOf kind a b text
+call-fill zero a b text h g = absurd (g refl)
+call-fill (suc zero) a b text h g = absurd (h refl)
+call-fill (suc (suc kind)) a b text h g = refl
 
 -- a call answered, as the contract of `step` says it
-abbrev pub Called : List ℕ → Call → ℕ → List ℕ → Type 0
-Called b c r b′ = (r ≡ answerTo b c) × (b′ ≡ after b c)
+abbrev pub Called : Lent → Call → ℕ → Lent → Type 0
+Called m c r m′ = (r ≡ answerTo m c) × (m′ ≡ after m c)
 
-pub called : (b : List ℕ) (c d : Call) (r : ℕ) (b′ : List ℕ) → c ≡ d → Called b c r b′ → Called b d r b′
-called b c d r b′ e k = (k .0 ∙ ap (answerTo b) e, k .1 ∙ ap (after b) e)
+pub called : (m : Lent) (c d : Call) (r : ℕ) (m′ : Lent) → c ≡ d → Called m c r m′ → Called m d r m′
+called m c d r m′ e k = (k .0 ∙ ap (answerTo m) e, k .1 ∙ ap (after m) e)
+
+-- a buffer and a row, each as it is
+pub lent-as : (b b′ row row′ : List ℕ) → b ≡ b′ → row ≡ row′ → lent b row ≡ lent b′ row′
+lent-as b b′ row row′ e f = rw (e, f)
 
 -- ── a call's lines and the bytes that are left ──
 
@@ -124,18 +134,20 @@ fits-all ns j room left so-far h = sym (so-far ∙ ap (λ (n : ℕ). leb n left)
 abbrev fronted : List ℕ → ℕ → List ℕ → List ℕ
 fronted xs n l = xs ++ drop n l
 
--- the buffer b′ and the room l′ before the call j, whose lines come after the first `at` bytes: what is left to do is the whole
-pub record Along (b calls text l b′ l′ : List ℕ) (at j : ℕ) : Type 0 where
+-- the memory m′ and the room l′ before the call j, whose lines come after the first `at` bytes: what is left to do is the whole
+pub record Along (m : Lent) (calls text l : List ℕ) (m′ : Lent) (l′ : List ℕ) (at j : ℕ) : Type 0 where
   pub index : j ≤ length calls / 3
   pub lines : at + needed (drop (3 * j) calls) ≤ length text
-  pub size : length b′ ≡ length b
+  pub size : length (m′ .buffer) ≡ length (m .buffer)
+  pub width : length (m′ .row) ≡ length (m .row)
   pub room : length l′ ≡ length l
-  pub buffer : afterAll b (script calls text) ≡ afterAll b′ (script (drop (3 * j) calls) (drop at text))
-  pub numbers : fronted (answersTo b (script calls text)) (length (script calls text)) l
-      ≡ take j l′ ++ fronted (answersTo b′ (script (drop (3 * j) calls) (drop at text))) (length (script (drop (3 * j) calls) (drop at text))) (drop j l′)
+  pub memory : afterAll m (script calls text) ≡ afterAll m′ (script (drop (3 * j) calls) (drop at text))
+  pub numbers : fronted (answersTo m (script calls text)) (length (script calls text)) l
+      ≡ take j l′ ++ fronted (answersTo m′ (script (drop (3 * j) calls) (drop at text))) (length (script (drop (3 * j) calls) (drop at text))) (drop j l′)
 
-pub along-none : (b calls text l : List ℕ) → needed calls ≤ length text → Along b calls text l b l 0 0
-along-none b calls text l h = record { index = omega arith; lines = omega arith; size = refl; room = refl; buffer = refl; numbers = refl }
+pub along-none : (m : Lent) (calls text l : List ℕ) → needed calls ≤ length text → Along m calls text l m l 0 0
+along-none m calls text l h =
+    record { index = omega arith; lines = omega arith; size = refl; width = refl; room = refl; memory = refl; numbers = refl }
 
 -- one number more
 put-number : (j x n : ℕ) (xs l : List ℕ) → j < length l
@@ -145,7 +157,7 @@ put-number j x n xs l h =
     rw (add-one, take-suc-set l j x h, drop-set-lt (suc j) l j x (omega arith), drop-drop (suc n) j l, drop-drop n (suc j) l, e)
     (sym (append-snoc (take j l) x (xs ++ drop (suc j + n) l)))
 
-module _ (b calls text l b′ l′ : List ℕ) (at j : ℕ) (A : Along b calls text l b′ l′ at j) (more : j < length calls / 3) where
+module _ (m : Lent) (calls text l : List ℕ) (m′ : Lent) (l′ : List ℕ) (at j : ℕ) (A : Along m calls text l m′ l′ at j) (more : j < length calls / 3) where
   abbrev length-taken : ℕ
   length-taken = taken (kind calls j more) (first calls j more) (second calls j more)
 
@@ -160,29 +172,31 @@ module _ (b calls text l b′ l′ : List ℕ) (at j : ℕ) (A : Along b calls t
       script-more calls j more (drop at text)
       ∙ ap (λ (t : List ℕ). call ∷ script (drop (3 * (j + 1)) calls) t) (drop-drop length-taken at text)
 
-  pub along-more : (x n : ℕ) (b″ : List ℕ) → Called b′ call x b″ → length b″ ≡ length b′ → n ≡ length-taken → j < length l′ → Along b calls text l b″ (set l′ j x) (at + n) (j + 1)
-  along-more x n b″ c z t h =
+  pub along-more : (x n : ℕ) (m″ : Lent) → Called m′ call x m″ → length (m″ .buffer) ≡ length (m′ .buffer) → length (m″ .row) ≡ length (m′ .row)
+      → n ≡ length-taken → j < length l′ → Along m calls text l m″ (set l′ j x) (at + n) (j + 1)
+  along-more x n m″ c z y t h =
       let rest = script (drop (3 * (j + 1)) calls) (drop (at + length-taken) text) in
       rw t (record {
         index = omega arith;
         lines = omega (arith, A .lines, needed-more calls j more);
         size = z ∙ A .size;
+        width = y ∙ A .width;
         room = length-set l′ j x ∙ A .room;
-        buffer = A .buffer ∙ ap (afterAll b′) behind ∙ ap (λ (u : List ℕ). afterAll u rest) (sym (c .1));
+        memory = A .memory ∙ ap (afterAll m′) behind ∙ ap (λ (u : Lent). afterAll u rest) (sym (c .1));
         numbers =
             A .numbers
-            ∙ ap (λ (cs : List Call). take j l′ ++ fronted (answersTo b′ cs) (length cs) (drop j l′)) behind
-            ∙ ap (λ (a : ℕ). take j l′ ++ fronted (a ∷ answersTo (after b′ call) rest) (suc (length rest)) (drop j l′)) (sym (c .0))
-            ∙ ap (λ (u : List ℕ). take j l′ ++ fronted (x ∷ answersTo u rest) (suc (length rest)) (drop j l′)) (sym (c .1))
-            ∙ put-number j x (length rest) (answersTo b″ rest) l′ h;
+            ∙ ap (λ (cs : List Call). take j l′ ++ fronted (answersTo m′ cs) (length cs) (drop j l′)) behind
+            ∙ ap (λ (a : ℕ). take j l′ ++ fronted (a ∷ answersTo (after m′ call) rest) (suc (length rest)) (drop j l′)) (sym (c .0))
+            ∙ ap (λ (u : Lent). take j l′ ++ fronted (x ∷ answersTo u rest) (suc (length rest)) (drop j l′)) (sym (c .1))
+            ∙ put-number j x (length rest) (answersTo m″ rest) l′ h;
       })
 
-pub along-done : (b calls text l b′ l′ : List ℕ) (at j : ℕ) → Along b calls text l b′ l′ at j → length calls / 3 ≤ j
-    → (b′ ≡ afterAll b (script calls text)) × (l′ ≡ fronted (answersTo b (script calls text)) (length (script calls text)) l)
-along-done b calls text l b′ l′ at j A h =
+pub along-done : (m : Lent) (calls text l : List ℕ) (m′ : Lent) (l′ : List ℕ) (at j : ℕ) → Along m calls text l m′ l′ at j → length calls / 3 ≤ j
+    → (m′ ≡ afterAll m (script calls text)) × (l′ ≡ fronted (answersTo m (script calls text)) (length (script calls text)) l)
+along-done m calls text l m′ l′ at j A h =
     let e = none-left calls j (drop at text) h .0 in (
-      sym (A .buffer ∙ ap (afterAll b′) e),
+      sym (A .memory ∙ ap (afterAll m′) e),
       sym (A .numbers
-          ∙ ap (λ (cs : List Call). take j l′ ++ fronted (answersTo b′ cs) (length cs) (drop j l′)) e
+          ∙ ap (λ (cs : List Call). take j l′ ++ fronted (answersTo m′ cs) (length cs) (drop j l′)) e
           ∙ take-append-drop j l′),
     )

@@ -1,21 +1,22 @@
--- A whole script of calls run on a lent buffer, and what specs/Total says of the memory that it leaves. Definitions only.
+-- A whole script of calls run on a lent buffer and its row, and what specs/Total says of the memory that it leaves. Definitions only.
 use Prim.Native.Nat.{ℕ, zero, suc, _+_, _/_}
 use mathlib.Core.Path.{_≡_}
 use mathlib.Core.Bool.{Bool, true, false, _&&_}
 use mathlib.Core.List.{List, [], _∷_, _++_}
 use lib.Dec.{leb}
 use lib.ListN.{length, take, drop}
-use Rattle.roster_script.specs.Total.{Call, Lodge, Withdraw, answersTo, afterAll, empty, accepted, Total}
+use Rattle.roster_script.specs.Total.{Call, Lodge, Withdraw, Fill, lent, answersTo, afterAll, empty, accepted, Total}
 use Rattle.roster_script.specs.declared.Ran.{Ran}
 use Rattle.roster_script.specs.declared.Ran.the-variants.{Done, Short}
 
 -- ── the script ──
 
--- a call is three numbers: 0 and the lengths of two lines, which come next in the text; or any other number, a catalogue number
--- to withdraw, and one that is not looked at
+-- a call is three numbers: 0 and the lengths of two lines to lodge, which come next in the text; 1, a catalogue number to
+-- withdraw, and one that is not looked at; or any other number, to fill the row, and two that are not looked at
 abbrev pub callOf : ℕ → ℕ → ℕ → List ℕ → Call
 callOf zero a b text = Lodge (take a text) (take b (drop a text))
-callOf (suc kind) a b text = Withdraw a
+callOf (suc zero) a b text = Withdraw a
+callOf (suc (suc kind)) a b text = Fill
 
 -- the bytes of the text that it takes
 abbrev pub taken : ℕ → ℕ → ℕ → ℕ
@@ -54,12 +55,12 @@ ranNumber Short = 17
 -- the contract of `run_script`:
 --   answer    whether the script was run
 --   unrun     where it was not, nothing is written
---   buffer    each call got the buffer that the last one left
+--   memory    each call got the buffer and the row that the last one left
 --   numbers   the number of each call's answer is at the front of its room, and what lies past them stays
---   total     from an empty roster, the buffer has the pairs last accepted and not since withdrawn, by those numbers
-pub record Post (b calls text answers : List ℕ) (r : Ran) (b′ answers′ : List ℕ) : Type 0 where
+--   total     from an empty roster with its row, buffer and row have the pairs last accepted and not since withdrawn, by those numbers
+pub record Post (b row calls text answers : List ℕ) (r : Ran) (b′ row′ answers′ : List ℕ) : Type 0 where
   pub answer : r ≡ ranOf (roomFor calls (length text) (length answers))
-  pub unrun : r ≡ Short → (b′ ≡ b) × (answers′ ≡ answers)
-  pub buffer : r ≡ Done → b′ ≡ afterAll b (script calls text)
-  pub numbers : r ≡ Done → answers′ ≡ answersTo b (script calls text) ++ drop (length (script calls text)) answers
-  pub total : r ≡ Done → b ≡ empty → Total b′ (accepted (script calls text) answers′)
+  pub unrun : r ≡ Short → (b′ ≡ b) × (row′ ≡ row) × (answers′ ≡ answers)
+  pub memory : r ≡ Done → lent b′ row′ ≡ afterAll (lent b row) (script calls text)
+  pub numbers : r ≡ Done → answers′ ≡ answersTo (lent b row) (script calls text) ++ drop (length (script calls text)) answers
+  pub total : r ≡ Done → lent b row ≡ empty → Total (lent b′ row′) (accepted (script calls text) answers′)

@@ -1,14 +1,15 @@
-// A whole script of calls, run on a roster in a lent buffer: the total of running code.
+// A whole script of calls, run on a roster in a lent buffer and the row beside it: the total of running code.
 
 ghost use mathlib.Core.Path.{_≡_};
 ghost use mathlib.Core.List.{_++_};
 ghost use Prim.Native.Nat.{_+_, _/_, _≤_};
 ghost use lib.Dec.{leb, ltb};
 ghost use lib.ListN.{length, drop};
-ghost use Rattle.roster_script.specs.Total.{answerTo, after, answersTo, afterAll};
+ghost use Rattle.roster_script.specs.Total.{lent, answerTo, after, answersTo, afterAll};
 ghost use Rattle.roster_script.specs.Script.{callOf, taken, script, needed, ranNumber, Post};
-use roster::lodge;
-use roster::withdraw;
+use roster_calls::fill_row;
+use roster_calls::lodge;
+use roster_calls::withdraw;
 
 // What became of a script: run; or not begun, for want of text or of room for the answers (17).
 pub enum Ran {
@@ -73,22 +74,33 @@ fn fits(calls: &[usize], room: usize) -> bool
 }
 
 // One call; its lines come after the first `at` bytes of the text.
-fn step(roster: &mut [u8], kind: usize, a: usize, b: usize, text: &[u8], at: usize) -> u64
+fn step(
+    roster: &mut [u8],
+    row: &mut [u64],
+    kind: usize,
+    a: usize,
+    b: usize,
+    text: &[u8],
+    at: usize,
+) -> u64
     requires { ⌜ at + taken kind a b ≤ length (now text) ⌝ }
-    ensures { λ r. ⌜ (r ≡ answerTo (now (roster .entry)) (callOf kind a b (drop at (now (text .entry))))) × (now (roster .exit) ≡ after (now (roster .entry)) (callOf kind a b (drop at (now (text .entry))))) ⌝ }
+    ensures { λ r. ⌜ (r ≡ answerTo (lent (now (roster .entry)) (now (row .entry))) (callOf kind a b (drop at (now (text .entry))))) × (lent (now (roster .exit)) (now (row .exit)) ≡ after (lent (now (roster .entry)) (now (row .entry))) (callOf kind a b (drop at (now (text .entry))))) ⌝ }
 {
+    if kind == 1 {
+        return withdraw(roster, row, a as u64).number();
+    }
     if kind != 0 {
-        return withdraw(roster, a as u64).number();
+        return fill_row(roster, row).number();
     }
     let half = at + a;
     let end = half + b;
-    lodge(roster, &text[at..half], &text[half..end]).number()
+    lodge(roster, row, &text[at..half], &text[half..end]).number()
 }
 
 // Every call of a script, one after the other.
-fn run_all(roster: &mut [u8], calls: &[usize], text: &[u8], answers: &mut [u64])
+fn run_all(roster: &mut [u8], row: &mut [u64], calls: &[usize], text: &[u8], answers: &mut [u64])
     requires { ⌜ (needed (now calls) ≤ length (now text)) × (length (now calls) / 3 ≤ length (now answers)) ⌝ }
-    ensures { λ _. ⌜ (now (roster .exit) ≡ afterAll (now (roster .entry)) (script (now (calls .entry)) (now (text .entry)))) × (now (answers .exit) ≡ answersTo (now (roster .entry)) (script (now (calls .entry)) (now (text .entry))) ++ drop (length (script (now (calls .entry)) (now (text .entry)))) (now (answers .entry))) ⌝ }
+    ensures { λ _. ⌜ (lent (now (roster .exit)) (now (row .exit)) ≡ afterAll (lent (now (roster .entry)) (now (row .entry))) (script (now (calls .entry)) (now (text .entry)))) × (now (answers .exit) ≡ answersTo (lent (now (roster .entry)) (now (row .entry))) (script (now (calls .entry)) (now (text .entry))) ++ drop (length (script (now (calls .entry)) (now (text .entry)))) (now (answers .entry))) ⌝ }
 {
     let mut at = 0;
     let mut j = 0;
@@ -97,17 +109,23 @@ fn run_all(roster: &mut [u8], calls: &[usize], text: &[u8], answers: &mut [u64])
         let kind = calls[i];
         let a = calls[i + 1];
         let b = calls[i + 2];
-        answers[j] = step(roster, kind, a, b, text, at);
+        answers[j] = step(roster, row, kind, a, b, text, at);
         at += lines_taken(text.len(), kind, a, b);
         j += 1;
     }
 }
 
 // Runs the calls, each of three numbers: 0 and the lengths of two lines to lodge, which come next in the
-// text; or any other number, a catalogue number to withdraw, and one that is not looked at. The number
-// of each call's answer goes to the front of `answers`.
-pub fn run_script(roster: &mut [u8], calls: &[usize], text: &[u8], answers: &mut [u64]) -> Ran
-    ensures { λ r. ⌜ Post (now (roster .entry)) (now (calls .entry)) (now (text .entry)) (now (answers .entry)) r (now (roster .exit)) (now (answers .exit)) ⌝ }
+// text; 1, a catalogue number to withdraw, and one that is not looked at; or any other number, to fill the
+// row, and two that are not looked at. The number of each call's answer goes to the front of `answers`.
+pub fn run_script(
+    roster: &mut [u8],
+    row: &mut [u64],
+    calls: &[usize],
+    text: &[u8],
+    answers: &mut [u64],
+) -> Ran
+    ensures { λ r. ⌜ Post (now (roster .entry)) (now (row .entry)) (now (calls .entry)) (now (text .entry)) (now (answers .entry)) r (now (roster .exit)) (now (row .exit)) (now (answers .exit)) ⌝ }
 {
     if !fits(calls, text.len()) {
         return Ran::Short;
@@ -115,6 +133,6 @@ pub fn run_script(roster: &mut [u8], calls: &[usize], text: &[u8], answers: &mut
     if answers.len() < calls.len() / 3 {
         return Ran::Short;
     }
-    run_all(roster, calls, text, answers);
+    run_all(roster, row, calls, text, answers);
     Ran::Done
 }

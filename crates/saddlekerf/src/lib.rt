@@ -10,15 +10,15 @@ ghost use Rattle.text.specs.Output.{fronted};
 ghost use Rattle.listing.specs.Listing as T;
 ghost use Rattle.opening.specs.Opening.{openPairOf};
 ghost use Rattle.record_numbers.specs.Numbers.{givenOf};
-ghost use Rattle.roster.specs.Roster.{rosterOf};
+ghost use Rattle.roster.specs.Row.{rosterWith};
 ghost use Rattle.compare.specs.Compare.{comparedOf, comparedOver};
 ghost use Rattle.lent_changes.specs.Answer.{comparedAnswer};
-ghost use Rattle.roster.specs.Calls.{lodgingOf, lodgedOver, withdrawalOf, withdrawnOver};
+ghost use Rattle.roster_calls.specs.Calls.{lodgingOf, lodgedOver, lodgedRow, withdrawalOf, withdrawnOver, withdrawnRow, fillingOf, filledRow};
 ghost use Rattle.report.specs.Report.{reportOf};
 ghost use Rattle.report.specs.Numbers.{storeRefusal, storedOver};
 ghost use Rattle.lent_pairs.specs.Pairs as P;
 ghost use Rattle.lent_pairs.specs.Records as C;
-ghost use Rattle.lent_pairs.specs.Roster.{lodgingAnswer, withdrawalAnswer};
+ghost use Rattle.lent_pairs.specs.Roster.{lodgingAnswer, withdrawalAnswer, fillingAnswer};
 ghost use Rattle.lent_opening.specs.Opening as O;
 ghost use Rattle.lent_requests.specs.Requests as R;
 ghost use Rattle.saddlekerf.specs.Version.{version, boundary};
@@ -26,6 +26,7 @@ use columns::checksum;
 use lent_changes::compare_held;
 use lent_opening::open_held;
 use lent_pairs::epoch_answer;
+use lent_pairs::fill_answer;
 use lent_pairs::lodge_answer;
 use lent_pairs::print_answer;
 use lent_pairs::read_answer;
@@ -41,16 +42,16 @@ use report::numbers::count_text;
 pub extern "C" fn saddlekerf_version() -> u64
     ensures { λ r. ⌜ r ≡ version ⌝ }
 {
-    200
+    300
 }
 
 // The number of this boundary, which stands in the name too: a header of another boundary refers to
 // another name and does not link.
 #[no_mangle]
-pub extern "C" fn saddlekerf_abi_1() -> u64
+pub extern "C" fn saddlekerf_abi_2() -> u64
     ensures { λ r. ⌜ r ≡ boundary ⌝ }
 {
-    1
+    2
 }
 
 // Reads a pair: 0, or the refusal with its values.
@@ -105,32 +106,54 @@ pub extern "C" fn saddlekerf_write(fields: &[i64], line: u32, out: &mut [u8]) ->
     write_answer(fields, line, out)
 }
 
-// Lodges the pair of two lines in the roster.
+// Lodges the pair of two lines in the roster, and its instant in the row beside it.
 #[no_mangle]
-pub extern "C" fn saddlekerf_lodge(roster: &mut [u8], line1: &[u8], line2: &[u8]) -> u64
-    ensures { λ r. ⌜ r ≡ lodgingAnswer (lodgingOf (now (roster .entry)) (now (line1 .entry)) (now (line2 .entry))) ⌝ }
-    ensures { λ _. ⌜ now (roster .exit) ≡ lodgedOver (now (roster .entry)) (now (line1 .entry)) (now (line2 .entry)) ⌝ }
+pub extern "C" fn saddlekerf_lodge(
+    roster: &mut [u8],
+    row: &mut [u64],
+    line1: &[u8],
+    line2: &[u8],
+) -> u64
+    ensures { λ r. ⌜ r ≡ lodgingAnswer (lodgingOf (now (roster .entry)) (now (row .entry)) (now (line1 .entry)) (now (line2 .entry))) ⌝ }
+    ensures { λ _. ⌜ now (roster .exit) ≡ lodgedOver (now (roster .entry)) (now (row .entry)) (now (line1 .entry)) (now (line2 .entry)) ⌝ }
+    ensures { λ _. ⌜ now (row .exit) ≡ lodgedRow (now (roster .entry)) (now (row .entry)) (now (line1 .entry)) (now (line2 .entry)) ⌝ }
 {
-    lodge_answer(roster, line1, line2)
+    lodge_answer(roster, row, line1, line2)
 }
 
-// Withdraws the pair of a catalogue number from the roster.
+// Withdraws the pair of a catalogue number from the roster, and its instant from the row beside it.
 #[no_mangle]
-pub extern "C" fn saddlekerf_withdraw(roster: &mut [u8], number: u64) -> u64
-    ensures { λ r. ⌜ r ≡ withdrawalAnswer (withdrawalOf (now (roster .entry)) number) ⌝ }
-    ensures { λ _. ⌜ now (roster .exit) ≡ withdrawnOver (now (roster .entry)) number ⌝ }
+pub extern "C" fn saddlekerf_withdraw(roster: &mut [u8], row: &mut [u64], number: u64) -> u64
+    ensures { λ r. ⌜ r ≡ withdrawalAnswer (withdrawalOf (now (roster .entry)) (now (row .entry)) number) ⌝ }
+    ensures { λ _. ⌜ now (roster .exit) ≡ withdrawnOver (now (roster .entry)) (now (row .entry)) number ⌝ }
+    ensures { λ _. ⌜ now (row .exit) ≡ withdrawnRow (now (roster .entry)) (now (row .entry)) number ⌝ }
 {
-    withdraw_answer(roster, number)
+    withdraw_answer(roster, row, number)
 }
 
-// What changed from the first roster to the second, at the front of `out`; 22 with the roster that is none,
-// 1 or 2; 17 where `out` is too short.
+// Fills the row of a roster that was kept without one, whatever the row held.
 #[no_mangle]
-pub extern "C" fn saddlekerf_changes(first: &[u8], second: &[u8], out: &mut [u8]) -> u64
-    ensures { λ r. ⌜ r ≡ comparedAnswer (comparedOf (rosterOf (now (first .entry))) (rosterOf (now (second .entry))) (length (now (out .entry)))) ⌝ }
-    ensures { λ _. ⌜ now (out .exit) ≡ comparedOver (rosterOf (now (first .entry))) (rosterOf (now (second .entry))) (now (out .entry)) ⌝ }
+pub extern "C" fn saddlekerf_fill_row(roster: &[u8], row: &mut [u64]) -> u64
+    ensures { λ r. ⌜ r ≡ fillingAnswer (fillingOf (now (roster .entry)) (now (row .entry))) ⌝ }
+    ensures { λ _. ⌜ now (row .exit) ≡ filledRow (now (roster .entry)) (now (row .entry)) ⌝ }
 {
-    compare_held(first, second, out)
+    fill_answer(roster, row)
+}
+
+// What changed from the first roster to the second, each with its row, at the front of `out`; 22 with the
+// roster that is none or has another row, 1 or 2; 17 where `out` is too short.
+#[no_mangle]
+pub extern "C" fn saddlekerf_changes(
+    first: &[u8],
+    row1: &[u64],
+    second: &[u8],
+    row2: &[u64],
+    out: &mut [u8],
+) -> u64
+    ensures { λ r. ⌜ r ≡ comparedAnswer (comparedOf (rosterWith (now (first .entry)) (now (row1 .entry))) (rosterWith (now (second .entry)) (now (row2 .entry))) (length (now (out .entry)))) ⌝ }
+    ensures { λ _. ⌜ now (out .exit) ≡ comparedOver (rosterWith (now (first .entry)) (now (row1 .entry))) (rosterWith (now (second .entry)) (now (row2 .entry))) (now (out .entry)) ⌝ }
+{
+    compare_held(first, row1, second, row2, out)
 }
 
 // The report of a whole text, its 17 numbers at the front of `counts` (crate report, specs/Numbers).

@@ -1,4 +1,4 @@
-// Whole numbers in the steps that test programs read.
+// What test programs do in the steps that they read: whole numbers, and a row of zeros.
 
 fn with_digit(n: u64, b: u8) -> u64 {
     if b < b'0' {
@@ -22,4 +22,12 @@ pub fn decimal(s: &[u8]) -> u64 {
         i += 1;
     }
     n
+}
+
+pub fn clear_row(row: &mut [u64]) {
+    let mut i = 0;
+    while i < row.len() {
+        row[i] = 0;
+        i += 1;
+    }
 }

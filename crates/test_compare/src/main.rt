@@ -2,13 +2,15 @@
 // stayed as they were. The input has two lines for each step, each ended by a newline:
 //   <=N  or  >=N  and an empty line: the first roster, or the second, becomes N zeros
 //   <@N  or  >@N  and some bytes: they go into it from index N on
-//   ?N   and an empty line: the two are compared, into a room of N dots
+//   ?N   and an empty line: their rows are filled and the two compared, into a room of N dots
+//   ?N   and < or >: the same, and the last instant of the first's row, or of the second's, is 1
 // Input and expected output are made by tests/roster_changes.py, with rosters and listings of its own.
 use bytes::scan::find;
 use compare::Compared;
 use compare::Which;
 use compare::compare;
-use roster::clear;
+use roster_calls::clear;
+use roster_calls::fill_row;
 use step_input::decimal;
 use text::put_bytes;
 use text::put_line;
@@ -80,9 +82,28 @@ fn dots(s: &[u8]) -> usize {
     n
 }
 
-fn print_compared(failed: &mut bool, first: &[u8], second: &[u8], room: &mut [u8]) {
+fn mark_of(line2: &[u8]) -> u8 {
+    if line2.len() == 0 {
+        return 0;
+    }
+    line2[0]
+}
+
+// The row of a roster, filled, or damaged.
+fn row_of(b: &[u8], damaged: bool) -> [u64; 64] {
+    let mut row = [0u64; 64];
+    fill_row(b, &mut row);
+    if damaged {
+        row[63] = 1;
+    }
+    row
+}
+
+fn print_compared(failed: &mut bool, first: &[u8], second: &[u8], room: &mut [u8], mark: u8) {
     fill(room);
-    let answer = compare(first, second, room);
+    let row1 = row_of(first, mark == b'<');
+    let row2 = row_of(second, mark == b'>');
+    let answer = compare(first, &row1, second, &row2, room);
     let n = print_answer(failed, answer, room);
     if n <= room.len() {
         print_count(failed, b"kept ", dots(&room[n..]));
@@ -101,7 +122,15 @@ fn edit(space: &mut [u8], size: usize, what: u8, n: usize, some: &[u8]) -> usize
 }
 
 // One comparison of the first bytes of both spaces, into the first bytes of the room.
-fn run(failed: &mut bool, first: &[u8], second: &[u8], room: &mut [u8], sizes: Sizes, n: usize) {
+fn run(
+    failed: &mut bool,
+    first: &[u8],
+    second: &[u8],
+    room: &mut [u8],
+    sizes: Sizes,
+    n: usize,
+    mark: u8,
+) {
     let size1 = sizes.first;
     let size2 = sizes.second;
     if size1 > first.len() {
@@ -113,7 +142,13 @@ fn run(failed: &mut bool, first: &[u8], second: &[u8], room: &mut [u8], sizes: S
     if n > room.len() {
         return;
     }
-    print_compared(failed, &first[0..size1], &second[0..size2], &mut room[0..n]);
+    print_compared(
+        failed,
+        &first[0..size1],
+        &second[0..size2],
+        &mut room[0..n],
+        mark,
+    );
 }
 
 fn step(
@@ -136,6 +171,7 @@ fn step(
             room,
             sizes,
             decimal(&line1[1..]) as usize,
+            mark_of(line2),
         );
         return sizes;
     }

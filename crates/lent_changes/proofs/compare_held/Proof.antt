@@ -10,8 +10,8 @@ use Rattle.lent_changes.proofs.compare_held.Tie as tie
 compared-answer-requires : tie.Need-compared-answer-requires
 compared-answer-requires c κs =
     let p = c .before .before in
-    let a = p .before .before .before .before .before .args in
-    written-fits (now (a .first)) (now (a .second)) (length (now (a .out))) (p .compare .result) (p .compare .ensures .0)
+    let a = p .before .before .before .before .before .before .before .args in
+    written-fits (now (a .first)) (now (a .row1)) (now (a .second)) (now (a .row2)) (length (now (a .out))) (p .compare .result) (p .compare .ensures .0)
 
 returns : tie.Need-returns
 returns c =

@@ -12,7 +12,7 @@ returns : tie.Need-returns
 returns c =
     let w = c .before .before .before in
     let s = w .before .before .before in
-    let e = w .put-pair .ensures ∙ whole (replicate 138 0) (s .args .r) refl in
+    let e = w .put-pair .ensures ∙ whole (replicate 138 0) (s .args .r) refl (s .pre) in
     same-as (c .same .result) _ (now (s .args .p)) (pairBytes (s .args .r)) refl (λ h. c .same .ensures .0 h ∙ e) (λ h. c .same .ensures .1 (h ∙ sym e))
 
 pub is-written-spec : {M : Type 1} → statement M
