@@ -64,7 +64,7 @@
  *
  *   SADDLEKERF_VERSION is the header's, saddlekerf_version() the archive's. A header and an archive
  *   whose functions, answers or layouts of memory differ do not link: every file that includes the
- *   header refers to the symbol saddlekerf_abi_1, whose name changes with them.
+ *   header refers to the symbol saddlekerf_abi_2, whose name changes with them.
  *
  * ANSWERS
  *
@@ -90,7 +90,7 @@ extern "C" {
 #endif
 
 /* The version of this header: 10000 * major + 100 * minor + patch. */
-#define SADDLEKERF_VERSION 200
+#define SADDLEKERF_VERSION 300
 
 /* Elements of a satellite's memory. More may be lent; they are never touched. */
 #define SADDLEKERF_NUMBERS 83
@@ -115,10 +115,11 @@ extern "C" {
 #define SADDLEKERF_LINE 69
 #define SADDLEKERF_FIELDS 22
 
-/* Bytes of a roster, of one of its places, and how many places it has. */
+/* Bytes of a roster, of one of its places, and how many places it has; instants of the row beside it. */
 #define SADDLEKERF_ROSTER 8832
 #define SADDLEKERF_PAIR 138
 #define SADDLEKERF_PLACES 64
+#define SADDLEKERF_ROW 64
 
 /* Elements of a report (enum saddlekerf_report_number), and the most pairs of its text. */
 #define SADDLEKERF_COUNTS 17
@@ -150,7 +151,8 @@ enum saddlekerf_refusal_number {
     SADDLEKERF_FULL = 19,                 /* all 64 places of the roster hold other numbers */
     SADDLEKERF_OLDER = 20,                /* the roster's pair of this number has a later epoch */
     SADDLEKERF_ABSENT = 21,               /* the roster has no pair of this number */
-    SADDLEKERF_NO_ROSTER = 22,            /* the buffer is no roster, or has another length */
+    SADDLEKERF_NO_ROSTER = 22,            /* the buffer is no roster or has another length, or the row has
+                                             another length or disagrees with the pairs */
     SADDLEKERF_PAIRS = 23,                /* a text of more than 4,096 whole pairs */
     SADDLEKERF_ODD = 24                   /* a text with an odd number of lines */
 };
@@ -218,10 +220,10 @@ enum saddlekerf_report_number {
 uint64_t saddlekerf_version(void);
 
 /* 1: the number of the functions, answers and layouts of memory that this header describes. */
-uint64_t saddlekerf_abi_1(void);
+uint64_t saddlekerf_abi_2(void);
 
 /* A header of other functions, answers or layouts than the archive's does not link. */
-__attribute__((used, unused)) static uint64_t (*const saddlekerf_abi)(void) = saddlekerf_abi_1;
+__attribute__((used, unused)) static uint64_t (*const saddlekerf_abi)(void) = saddlekerf_abi_2;
 
 /*
  * 1 where the calling thread's floating-point environment is the one that the proofs speak of, else
@@ -310,26 +312,42 @@ uint64_t saddlekerf_write(const int64_t *fields, size_t fields_length, uint32_t 
 /*
  * A roster is 8,832 bytes: up to 64 pairs of 138 bytes, each its line 1 and its line 2 as
  * saddlekerf_write writes them with nothing between, by rising catalogue number, packed from the
- * front, and every byte after the last pair 0. 8,832 zeros are the empty roster. A call judges the
- * whole buffer, so that one damaged in any way is refused and never grows worse.
+ * front, and every byte after the last pair 0. 8,832 zeros are the empty roster. Beside it lies a row
+ * of 64 instants, one for each place: the pair's epoch, in microseconds as saddlekerf_epoch tells it,
+ * and 0 past the last pair. (0 is also the instant 1957 January 1, 0h: the buffer, and not the row,
+ * tells how many pairs there are.) 64 zeros are the row of the empty roster. A call judges the whole
+ * buffer and the whole row, so that what is damaged in any way is refused and never grows worse; a
+ * refusal leaves both as they were. To order pairs by age, read the row alone.
  */
+
+/*
+ * Fills the row of a roster that was kept without one, whatever the row held.
+ * Answer: 0; 22 where the buffer has another length or is no roster, or the row has another length.
+ */
+uint64_t saddlekerf_fill_row(const uint8_t *roster, size_t roster_length,
+                             uint64_t *row, size_t row_length);
 
 /*
  * Lodges a pair, written as saddlekerf_write does whatever way it is spelt here. It replaces the pair
  * of its catalogue number, unless its epoch is the older instant; an equal epoch replaces. Else it
- * takes its place, and the later pairs move up.
- * Answer: 0; 1-6 as saddlekerf_read; 22 where the buffer has another length or is no roster; 20 where
- * the roster's pair of that number has a later epoch; 19 where all 64 places hold other numbers.
+ * takes its place, and the later pairs and their instants move up.
+ * Answer: 0; 1-6 as saddlekerf_read; 22 where the buffer has another length or is no roster, or the row
+ * has another length or disagrees with the pairs; 20 where the roster's pair of that number has a later
+ * epoch; 19 where all 64 places hold other numbers.
  */
 uint64_t saddlekerf_lodge(uint8_t *roster, size_t roster_length,
+                          uint64_t *row, size_t row_length,
                           const uint8_t *line1, size_t line1_length,
                           const uint8_t *line2, size_t line2_length);
 
 /*
- * Withdraws the pair of a catalogue number: the later pairs close the gap, and zeros follow.
- * Answer: 0; 22 where the buffer has another length or is no roster; 21 where it has no such pair.
+ * Withdraws the pair of a catalogue number: the later pairs and their instants close the gap, and zeros
+ * follow.
+ * Answer: 0; 22 where the buffer has another length or is no roster, or the row has another length or
+ * disagrees with the pairs; 21 where the roster has no such pair.
  */
-uint64_t saddlekerf_withdraw(uint8_t *roster, size_t roster_length, uint64_t number);
+uint64_t saddlekerf_withdraw(uint8_t *roster, size_t roster_length,
+                             uint64_t *row, size_t row_length, uint64_t number);
 
 /* ---- a report ---- */
 
@@ -354,12 +372,14 @@ uint64_t saddlekerf_report(const uint8_t *text, size_t text_length,
  *                          and bstar the first's value, then the second's, as printed there
  *
  * Equal rosters give no line. The text stands at the front of out, with no 0 byte after it; what lies
- * past it stays. The two rosters may be the same memory.
- * Answer: 22 with 1 where the first buffer is no roster, 22 with 2 where the second is none
- * (saddlekerf_which); 17 where out is too short; else 0 with the bytes written.
+ * past it stays. The two rosters, and their rows, may be the same memory.
+ * Answer: 22 with 1 where the first buffer is no roster or its row another's, 22 with 2 where the second
+ * is (saddlekerf_which); 17 where out is too short; else 0 with the bytes written.
  */
 uint64_t saddlekerf_changes(const uint8_t *first, size_t first_length,
+                            const uint64_t *row1, size_t row1_length,
                             const uint8_t *second, size_t second_length,
+                            const uint64_t *row2, size_t row2_length,
                             uint8_t *out, size_t out_length);
 
 /* ---- a satellite ---- */

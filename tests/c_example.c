@@ -1,6 +1,6 @@
 /*
  * Uses the library from C: reads, prints and opens pairs, reads and writes records, lodges pairs in a
- * roster and withdraws them, lists what changed between two, asks for one time and for lists, and holds every answer, bit for bit, to document 01's example and to the rows of the
+ * roster with its row and withdraws them, lists what changed between two, asks for one time and for lists, and holds every answer, bit for bit, to document 01's example and to the rows of the
  * published test set; what memory holds afterwards too, with NaNs in it whose own bits must stay.
  *
  *   c_example bench/vectors/published-rows.txt
@@ -93,7 +93,7 @@ static const char *line2_with(size_t column, const char *text)
 static void one_version(void)
 {
     CHECK(saddlekerf_version() == SADDLEKERF_VERSION);
-    CHECK(saddlekerf_abi() == 1);
+    CHECK(saddlekerf_abi() == 2);
 }
 
 /* Under another control word of the processor's arithmetic; the old one is put back. */
@@ -284,9 +284,29 @@ static void short_year(void)
 static const char OTHER1[] = "1 00005U 58002B   00179.78495062 +.00000023 +00000+0 +28098-4 0 04752";
 static const char OTHER2[] = "2 00005 034.2682 348.7242 1859667 331.7664 019.3264 10.82419157413667";
 
-static uint64_t lodge(uint8_t *roster, const char *line1, const char *line2)
+static uint64_t lodge(uint8_t *roster, uint64_t *row, const char *line1, const char *line2)
 {
-    return saddlekerf_lodge(roster, SADDLEKERF_ROSTER, bytes(line1), strlen(line1), bytes(line2), strlen(line2));
+    return saddlekerf_lodge(roster, SADDLEKERF_ROSTER, row, SADDLEKERF_ROW, bytes(line1), strlen(line1), bytes(line2),
+                            strlen(line2));
+}
+
+static uint64_t withdraw(uint8_t *roster, uint64_t *row, uint64_t number)
+{
+    return saddlekerf_withdraw(roster, SADDLEKERF_ROSTER, row, SADDLEKERF_ROW, number);
+}
+
+/* Whether the row is the instants of these pairs, and zeros after. */
+static int tells(const uint64_t *row, const char *const *lines, size_t pairs)
+{
+    size_t i;
+    for (i = 0; i < SADDLEKERF_ROW; i++) {
+        uint64_t instant = 0;
+        if (i < pairs)
+            saddlekerf_epoch(bytes(lines[2 * i]), LENGTH, bytes(lines[2 * i + 1]), LENGTH, &instant);
+        if (row[i] != instant)
+            return 0;
+    }
+    return 1;
 }
 
 /* Whether the roster is these pairs, and zeros after. */
@@ -307,35 +327,80 @@ static void keep_roster(void)
 {
     static const char *const both[] = {LINE1, LINE2, RESONANT1, RESONANT2};
     static uint8_t roster[SADDLEKERF_ROSTER + 1];
+    static uint64_t row[SADDLEKERF_ROW + 1];
     static const char OLDER1[] = "1 00005U 58002B   00179.78495061  .00000023  00000-0  28098-4 0  4752";
     uint64_t a;
 
     CHECK(SADDLEKERF_ROSTER == SADDLEKERF_PLACES * SADDLEKERF_PAIR && SADDLEKERF_PAIR == 2 * LENGTH);
-    CHECK(saddlekerf_withdraw(roster, SADDLEKERF_ROSTER, 5) == SADDLEKERF_ABSENT);
-    CHECK(holds(roster, both, 0));
-    CHECK(lodge(roster, RESONANT1, RESONANT2) == SADDLEKERF_ANSWERED);
-    CHECK(holds(roster, both + 2, 1));
-    CHECK(lodge(roster, OTHER1, OTHER2) == SADDLEKERF_ANSWERED);
-    CHECK(holds(roster, both, 2));
-    CHECK(lodge(roster, OLDER1, LINE2) == SADDLEKERF_OLDER);
-    a = lodge(roster, LINE1, line2_with(12, ","));
+    CHECK(withdraw(roster, row, 5) == SADDLEKERF_ABSENT);
+    CHECK(holds(roster, both, 0) && tells(row, both, 0));
+    CHECK(lodge(roster, row, RESONANT1, RESONANT2) == SADDLEKERF_ANSWERED);
+    CHECK(holds(roster, both + 2, 1) && tells(row, both + 2, 1));
+    CHECK(lodge(roster, row, OTHER1, OTHER2) == SADDLEKERF_ANSWERED);
+    CHECK(holds(roster, both, 2) && tells(row, both, 2));
+    CHECK(lodge(roster, row, OLDER1, LINE2) == SADDLEKERF_OLDER);
+    a = lodge(roster, row, LINE1, line2_with(12, ","));
     CHECK(saddlekerf_refusal(a) == SADDLEKERF_COLUMN && saddlekerf_line(a) == 2 && saddlekerf_column(a) == 12);
-    CHECK(saddlekerf_withdraw(roster, SADDLEKERF_ROSTER, 6) == SADDLEKERF_ABSENT);
-    CHECK(holds(roster, both, 2));
-    CHECK(saddlekerf_withdraw(roster, SADDLEKERF_ROSTER, 5) == SADDLEKERF_ANSWERED);
-    CHECK(holds(roster, both + 2, 1));
-    CHECK(lodge(roster, LINE1, LINE2) == SADDLEKERF_ANSWERED);
-    CHECK(saddlekerf_withdraw(roster, SADDLEKERF_ROSTER, 24208) == SADDLEKERF_ANSWERED);
-    CHECK(holds(roster, both, 1));
-    CHECK(saddlekerf_withdraw(roster, SADDLEKERF_ROSTER + 1, 5) == SADDLEKERF_NO_ROSTER);
-    CHECK(saddlekerf_withdraw(roster, SADDLEKERF_ROSTER - 1, 5) == SADDLEKERF_NO_ROSTER);
-    CHECK(holds(roster, both, 1));
+    CHECK(withdraw(roster, row, 6) == SADDLEKERF_ABSENT);
+    CHECK(holds(roster, both, 2) && tells(row, both, 2));
+    CHECK(withdraw(roster, row, 5) == SADDLEKERF_ANSWERED);
+    CHECK(holds(roster, both + 2, 1) && tells(row, both + 2, 1));
+    CHECK(lodge(roster, row, LINE1, LINE2) == SADDLEKERF_ANSWERED);
+    CHECK(withdraw(roster, row, 24208) == SADDLEKERF_ANSWERED);
+    CHECK(holds(roster, both, 1) && tells(row, both, 1));
+    CHECK(saddlekerf_withdraw(roster, SADDLEKERF_ROSTER + 1, row, SADDLEKERF_ROW, 5) == SADDLEKERF_NO_ROSTER);
+    CHECK(saddlekerf_withdraw(roster, SADDLEKERF_ROSTER - 1, row, SADDLEKERF_ROW, 5) == SADDLEKERF_NO_ROSTER);
+    CHECK(holds(roster, both, 1) && tells(row, both, 1));
     roster[SADDLEKERF_ROSTER - 1] = ' ';
-    CHECK(lodge(roster, RESONANT1, RESONANT2) == SADDLEKERF_NO_ROSTER);
-    CHECK(saddlekerf_withdraw(roster, SADDLEKERF_ROSTER, 5) == SADDLEKERF_NO_ROSTER);
+    CHECK(lodge(roster, row, RESONANT1, RESONANT2) == SADDLEKERF_NO_ROSTER);
+    CHECK(withdraw(roster, row, 5) == SADDLEKERF_NO_ROSTER);
     CHECK(roster[SADDLEKERF_ROSTER - 1] == ' ');
     roster[SADDLEKERF_ROSTER - 1] = 0;
-    CHECK(holds(roster, both, 1));
+    CHECK(holds(roster, both, 1) && tells(row, both, 1));
+    CHECK(saddlekerf_withdraw(roster, SADDLEKERF_ROSTER, row, SADDLEKERF_ROW + 1, 5) == SADDLEKERF_NO_ROSTER);
+    CHECK(saddlekerf_withdraw(roster, SADDLEKERF_ROSTER, row, SADDLEKERF_ROW - 1, 5) == SADDLEKERF_NO_ROSTER);
+    CHECK(holds(roster, both, 1) && tells(row, both, 1));
+}
+
+/* A row that is another's is refused and stays; one that is filled, whatever it held, is the roster's. */
+static void keep_row(void)
+{
+    static const char *const both[] = {LINE1, LINE2, RESONANT1, RESONANT2};
+    static const char ZERO1[] = "1 00005U 58002B   57001.00000000  .00000023  00000-0  28098-4 0  4758";
+    static uint8_t roster[SADDLEKERF_ROSTER];
+    static uint64_t row[SADDLEKERF_ROW], before[SADDLEKERF_ROW];
+    size_t i;
+
+    CHECK(lodge(roster, row, ZERO1, LINE2) == SADDLEKERF_ANSWERED); /* the instant 0 is no empty place */
+    CHECK(row[0] == 0 && roster[0] == '1');
+    CHECK(lodge(roster, row, LINE1, LINE2) == SADDLEKERF_ANSWERED);
+    CHECK(lodge(roster, row, ZERO1, LINE2) == SADDLEKERF_OLDER);
+    CHECK(lodge(roster, row, RESONANT1, RESONANT2) == SADDLEKERF_ANSWERED);
+    CHECK(holds(roster, both, 2) && tells(row, both, 2));
+    for (i = 0; i < SADDLEKERF_ROW; i++) {
+        row[i] += 864;
+        memcpy(before, row, sizeof row);
+        CHECK(lodge(roster, row, LINE1, LINE2) == SADDLEKERF_NO_ROSTER);
+        CHECK(withdraw(roster, row, 5) == SADDLEKERF_NO_ROSTER);
+        CHECK(holds(roster, both, 2) && memcmp(row, before, sizeof row) == 0);
+        row[i] -= 864;
+    }
+    memset(row, 255, sizeof row);
+    CHECK(saddlekerf_fill_row(roster, sizeof roster, row, SADDLEKERF_ROW) == SADDLEKERF_ANSWERED);
+    CHECK(holds(roster, both, 2) && tells(row, both, 2));
+    memcpy(before, row, sizeof row);
+    CHECK(saddlekerf_fill_row(roster, sizeof roster, row, SADDLEKERF_ROW - 1) == SADDLEKERF_NO_ROSTER);
+    CHECK(saddlekerf_fill_row(roster, sizeof roster - 1, row, SADDLEKERF_ROW) == SADDLEKERF_NO_ROSTER);
+    roster[SADDLEKERF_ROSTER - 1] = ' ';
+    CHECK(saddlekerf_fill_row(roster, sizeof roster, row, SADDLEKERF_ROW) == SADDLEKERF_NO_ROSTER);
+    CHECK(memcmp(row, before, sizeof row) == 0);
+}
+
+static uint64_t compared(const uint8_t *first, const uint64_t *row1, const uint8_t *second, const uint64_t *row2,
+                         uint8_t *out, size_t out_length)
+{
+    return saddlekerf_changes(first, SADDLEKERF_ROSTER, row1, SADDLEKERF_ROW, second, SADDLEKERF_ROSTER, row2,
+                              SADDLEKERF_ROW, out, out_length);
 }
 
 /* A text counted, with what is left of the memory; refused, it is left as it was. */
@@ -378,28 +443,33 @@ static void compare_rosters(void)
     static const char NEW2[] = "2 00005  34.2682 348.7202 1859667 331.7664  19.3264 10.82419157413775";
     static const char FIELDS[] = "5 epoch 86400000000\n5 bstar 28098 -4 -28100 -4\n5 set 1\n5 node -40\n5 revolution 11\n";
     static uint8_t first[SADDLEKERF_ROSTER], second[SADDLEKERF_ROSTER];
+    static uint64_t row1[SADDLEKERF_ROW], row2[SADDLEKERF_ROW];
     static uint8_t out[SADDLEKERF_CHANGES_ROOM], before[SADDLEKERF_CHANGES_ROOM];
     const size_t fields = sizeof FIELDS - 1, size = fields + 7 + SADDLEKERF_PAIR + 1;
     uint64_t a;
 
     memset(out, '.', sizeof out);
     memcpy(before, out, sizeof out);
-    CHECK(saddlekerf_changes(first, sizeof first, second, sizeof second, out, 0) == SADDLEKERF_ANSWERED);
-    CHECK(lodge(first, LINE1, LINE2) == SADDLEKERF_ANSWERED);
-    CHECK(lodge(second, NEW1, NEW2) == SADDLEKERF_ANSWERED);
-    CHECK(lodge(second, RESONANT1, RESONANT2) == SADDLEKERF_ANSWERED);
-    CHECK(saddlekerf_changes(first, sizeof first, second, sizeof second, out, size - 1) == SADDLEKERF_ROOM);
+    CHECK(compared(first, row1, second, row2, out, 0) == SADDLEKERF_ANSWERED);
+    CHECK(lodge(first, row1, LINE1, LINE2) == SADDLEKERF_ANSWERED);
+    CHECK(lodge(second, row2, NEW1, NEW2) == SADDLEKERF_ANSWERED);
+    CHECK(lodge(second, row2, RESONANT1, RESONANT2) == SADDLEKERF_ANSWERED);
+    CHECK(compared(first, row1, second, row2, out, size - 1) == SADDLEKERF_ROOM);
     CHECK(memcmp(out, before, sizeof out) == 0);
-    CHECK(saddlekerf_changes(first, sizeof first - 1, second, 0, out, size) == (SADDLEKERF_NO_ROSTER | 1 << 8));
-    a = saddlekerf_changes(first, sizeof first, second, sizeof second - 1, out, 0);
+    CHECK(saddlekerf_changes(first, sizeof first - 1, row1, SADDLEKERF_ROW, second, 0, row2, SADDLEKERF_ROW, out, size) == (SADDLEKERF_NO_ROSTER | 1 << 8));
+    a = saddlekerf_changes(first, sizeof first, row1, SADDLEKERF_ROW, second, sizeof second - 1, row2, SADDLEKERF_ROW, out, 0);
+    CHECK(saddlekerf_refusal(a) == SADDLEKERF_NO_ROSTER && saddlekerf_which(a) == 2);
+    CHECK(compared(first, row2, second, row1, out, size) == (SADDLEKERF_NO_ROSTER | 1 << 8));
+    CHECK(compared(first, row1, second, row1, out, size) == (SADDLEKERF_NO_ROSTER | 2 << 8));
+    a = saddlekerf_changes(first, sizeof first, row1, SADDLEKERF_ROW, second, sizeof second, row2, SADDLEKERF_ROW - 1, out, size);
     CHECK(saddlekerf_refusal(a) == SADDLEKERF_NO_ROSTER && saddlekerf_which(a) == 2);
     CHECK(memcmp(out, before, sizeof out) == 0);
-    CHECK(saddlekerf_changes(first, sizeof first, second, sizeof second, out, size) == (uint64_t)size << 32);
+    CHECK(compared(first, row1, second, row2, out, size) == (uint64_t)size << 32);
     CHECK(memcmp(out, FIELDS, fields) == 0 && memcmp(out + fields, "second ", 7) == 0);
     CHECK(memcmp(out + fields + 7, RESONANT1, LENGTH) == 0 && memcmp(out + fields + 7 + LENGTH, RESONANT2, LENGTH) == 0);
     CHECK(out[size - 1] == '\n' && memcmp(out + size, before, sizeof out - size) == 0);
     memcpy(out, before, sizeof out);
-    CHECK(saddlekerf_changes(second, sizeof second, first, sizeof first, out, sizeof out) == (uint64_t)(size + 1) << 32);
+    CHECK(compared(second, row2, first, row1, out, sizeof out) == (uint64_t)(size + 1) << 32);
     CHECK(memcmp(out, "5 epoch -86400000000\n", 21) == 0 && out[size] == '\n');
     CHECK(memcmp(out + size + 1, before, sizeof out - size - 1) == 0);
 }
@@ -408,6 +478,7 @@ static void compare_rosters(void)
 static void fill_roster(void)
 {
     static uint8_t roster[SADDLEKERF_ROSTER], before[SADDLEKERF_ROSTER];
+    static uint64_t row[SADDLEKERF_ROW];
     int64_t fields[SADDLEKERF_FIELDS];
     uint8_t line1[LENGTH], line2[LENGTH];
     uint64_t number;
@@ -419,13 +490,14 @@ static void fill_roster(void)
         CHECK(saddlekerf_write(fields, SADDLEKERF_FIELDS, 2, line2, LENGTH) == (uint64_t)LENGTH << 32);
         memcpy(before, roster, sizeof before);
         if (number < SADDLEKERF_PLACES) {
-            CHECK(saddlekerf_lodge(roster, sizeof roster, line1, LENGTH, line2, LENGTH) == SADDLEKERF_ANSWERED);
+            CHECK(saddlekerf_lodge(roster, sizeof roster, row, SADDLEKERF_ROW, line1, LENGTH, line2, LENGTH) == SADDLEKERF_ANSWERED);
         } else {
-            CHECK(saddlekerf_lodge(roster, sizeof roster, line1, LENGTH, line2, LENGTH) == SADDLEKERF_FULL);
+            CHECK(saddlekerf_lodge(roster, sizeof roster, row, SADDLEKERF_ROW, line1, LENGTH, line2, LENGTH) == SADDLEKERF_FULL);
             CHECK(memcmp(roster, before, sizeof before) == 0);
         }
     }
     CHECK(memcmp(roster + SADDLEKERF_ROSTER - SADDLEKERF_PAIR, "1 00064U", 8) == 0);
+    CHECK(row[0] != 0 && row[0] == row[SADDLEKERF_ROW - 1]);
 }
 
 static uint32_t strides_at(saddlekerf_satellite *s, int64_t time)
@@ -755,6 +827,7 @@ int main(int argc, char **argv)
     letters();
     short_year();
     keep_roster();
+    keep_row();
     fill_roster();
     count_pairs();
     compare_rosters();

@@ -11,6 +11,12 @@
 
 #define PAIR const uint8_t *line1, size_t line1_length, const uint8_t *line2, size_t line2_length
 #define LENT_PAIR line1, line1_length, line2, line2_length
+#define ROSTER uint8_t *roster, size_t roster_length, uint64_t *row, size_t row_length
+#define LENT_ROSTER roster, roster_length, row, row_length
+#define TWO                                                                                                 \
+    const uint8_t *first, size_t first_length, const uint64_t *row1, size_t row1_length, const uint8_t *second, \
+        size_t second_length, const uint64_t *row2, size_t row2_length
+#define LENT_TWO first, first_length, row1, row1_length, second, second_length, row2, row2_length
 #define SATELLITE double *numbers, size_t numbers_length, uint32_t *marks, size_t marks_length
 #define LENT_SATELLITE numbers, numbers_length, marks, marks_length
 
@@ -22,11 +28,11 @@ uint64_t __real_saddlekerf_epoch(PAIR, uint64_t *instant);
 uint64_t __real_saddlekerf_record(PAIR, int64_t *fields, size_t fields_length);
 uint64_t __real_saddlekerf_write(const int64_t *fields, size_t fields_length, uint32_t line, uint8_t *out,
                                  size_t out_length);
-uint64_t __real_saddlekerf_lodge(uint8_t *roster, size_t roster_length, PAIR);
-uint64_t __real_saddlekerf_withdraw(uint8_t *roster, size_t roster_length, uint64_t number);
+uint64_t __real_saddlekerf_fill_row(const uint8_t *roster, size_t roster_length, uint64_t *row, size_t row_length);
+uint64_t __real_saddlekerf_lodge(ROSTER, PAIR);
+uint64_t __real_saddlekerf_withdraw(ROSTER, uint64_t number);
 uint64_t __real_saddlekerf_report(const uint8_t *text, size_t text_length, uint64_t *counts, size_t counts_length);
-uint64_t __real_saddlekerf_changes(const uint8_t *first, size_t first_length, const uint8_t *second,
-                                   size_t second_length, uint8_t *out, size_t out_length);
+uint64_t __real_saddlekerf_changes(TWO, uint8_t *out, size_t out_length);
 uint64_t __real_saddlekerf_open(PAIR, SATELLITE);
 uint64_t __real_saddlekerf_request(SATELLITE, int64_t time, double *state, size_t state_length);
 uint64_t __real_saddlekerf_request_list(SATELLITE, const int64_t *times, size_t times_length, uint8_t *refusals,
@@ -149,9 +155,32 @@ uint64_t __wrap_saddlekerf_write(const int64_t *fields, size_t fields_length, ui
     return a;
 }
 
-uint64_t __wrap_saddlekerf_lodge(uint8_t *roster, size_t roster_length, PAIR)
+uint64_t __wrap_saddlekerf_fill_row(const uint8_t *roster, size_t roster_length, uint64_t *row, size_t row_length)
 {
-    const uint64_t a = __real_saddlekerf_lodge(roster, roster_length, LENT_PAIR);
+    const uint64_t last = row_length > 0 ? row[row_length - 1] : 0;
+    const uint64_t a = __real_saddlekerf_fill_row(roster, roster_length, row, row_length);
+    if (a == 0 && wrong("fill-end")) /* past the last pair what stood there stays */
+        row[row_length - 1] = last;
+    if (a != 0 && row_length > 0 && wrong("fill-refused"))
+        row[0] ^= 1;
+    return a;
+}
+
+uint64_t __wrap_saddlekerf_lodge(ROSTER, PAIR)
+{
+    uint64_t before[SADDLEKERF_ROW] = {0};
+    uint64_t a;
+    if (row_length == SADDLEKERF_ROW)
+        memcpy(before, row, sizeof before);
+    a = __real_saddlekerf_lodge(LENT_ROSTER, LENT_PAIR);
+    if (a == 0 && wrong("lodge-row")) /* the row as it was */
+        memcpy(row, before, sizeof before);
+    if (saddlekerf_refusal(a) == SADDLEKERF_NO_ROSTER && row_length == SADDLEKERF_ROW && wrong("row-not-judged")) {
+        __real_saddlekerf_fill_row(roster, roster_length, row, row_length);
+        a = __real_saddlekerf_lodge(LENT_ROSTER, LENT_PAIR);
+    }
+    if (a != 0 && row_length > 0 && wrong("row-refused"))
+        row[row_length - 1] ^= 1;
     if (a == 0 && wrong("lodge-spelling"))
         memcpy(roster, line1, SADDLEKERF_LINE); /* the line as it was spelt, at the front */
     if (a == 0 && roster[SADDLEKERF_ROSTER - SADDLEKERF_PAIR] == 0 && wrong("lodge-past"))
@@ -163,16 +192,21 @@ uint64_t __wrap_saddlekerf_lodge(uint8_t *roster, size_t roster_length, PAIR)
     return a;
 }
 
-uint64_t __wrap_saddlekerf_withdraw(uint8_t *roster, size_t roster_length, uint64_t number)
+uint64_t __wrap_saddlekerf_withdraw(ROSTER, uint64_t number)
 {
     uint8_t last[SADDLEKERF_PAIR];
+    uint64_t before[SADDLEKERF_ROW] = {0};
     uint64_t a;
     size_t used = roster_length;
     while (used > 0 && roster[used - 1] == 0)
         used--;
     if (used >= SADDLEKERF_PAIR)
         memcpy(last, roster + used - SADDLEKERF_PAIR, sizeof last);
-    a = __real_saddlekerf_withdraw(roster, roster_length, number);
+    if (row_length == SADDLEKERF_ROW)
+        memcpy(before, row, sizeof before);
+    a = __real_saddlekerf_withdraw(LENT_ROSTER, number);
+    if (a == 0 && wrong("withdraw-row")) /* the row unshifted */
+        memcpy(row, before, sizeof before);
     if (a == 0 && wrong("withdraw-left"))
         memcpy(roster + used - SADDLEKERF_PAIR, last, sizeof last); /* the last pair's bytes behind the end */
     if (a != 0 && roster_length > 0 && wrong("withdraw-refused"))
@@ -198,13 +232,13 @@ uint64_t __wrap_saddlekerf_report(const uint8_t *text, size_t text_length, uint6
     return a;
 }
 
-uint64_t __wrap_saddlekerf_changes(const uint8_t *first, size_t first_length, const uint8_t *second,
-                                   size_t second_length, uint8_t *out, size_t out_length)
+uint64_t __wrap_saddlekerf_changes(TWO, uint8_t *out, size_t out_length)
 {
-    uint64_t a = __real_saddlekerf_changes(first, first_length, second, second_length, out, out_length);
+    uint64_t a = __real_saddlekerf_changes(LENT_TWO, out, out_length);
     const uint32_t size = saddlekerf_written(a);
     if (a != 0 && saddlekerf_refusal(a) == SADDLEKERF_ANSWERED && wrong("changes-exchanged")) /* the first's less the second's */
-        a = __real_saddlekerf_changes(second, second_length, first, first_length, out, out_length);
+        a = __real_saddlekerf_changes(second, second_length, row2, row2_length, first, first_length, row1, row1_length, out,
+                                      out_length);
     if (saddlekerf_refusal(a) == SADDLEKERF_NO_ROSTER && wrong("changes-which"))
         a ^= 3 << 8;
     if (size > 0 && size < out_length && wrong("changes-past"))

@@ -1,6 +1,6 @@
-//! What changed between two rosters (document 02, wish 7).
+//! What changed between two rosters, each with its row (document 02, wishes 7 and 8).
 
-use crate::roster::{records, spelt};
+use crate::roster::{spelt, with_row};
 use crate::tle::{Exponential, Record};
 
 fn shown(designator: &[u8; 8]) -> &str {
@@ -76,11 +76,14 @@ pub fn listing(first: &[Record], second: &[Record]) -> String {
     }
 }
 
-/// Writes the listing of two buffers at the front of the room: its size; or a refusal and the roster it
+/// A roster's buffer and the row beside it.
+pub type Lent<'a> = (&'a [u8], &'a [u64]);
+
+/// Writes the listing of two rosters at the front of the room: its size; or a refusal and the roster it
 /// names, (22, 1), (22, 2), (17, 0), and the room stays.
-pub fn changes(first: &[u8], second: &[u8], room: &mut [u8]) -> Result<usize, (u8, u8)> {
-    let first = records(first).ok_or((22, 1))?;
-    let second = records(second).ok_or((22, 2))?;
+pub fn changes(first: Lent, second: Lent, room: &mut [u8]) -> Result<usize, (u8, u8)> {
+    let first = with_row(first.0, first.1).ok_or((22, 1))?;
+    let second = with_row(second.0, second.1).ok_or((22, 2))?;
     let text = listing(&first, &second);
     room.get_mut(..text.len()).ok_or((17, 0))?.copy_from_slice(text.as_bytes());
     Ok(text.len())

@@ -1,8 +1,9 @@
 //! Two libraries held against each other, bit for bit, over random pairs and
 //! random sequences of requests. A case is found again by its seed and number.
 
+use crate::changes::Lent;
 use crate::elementary::Document;
-use crate::generate::{self, Aim, Ask, Call, AIMS, DAMAGES, RELATIONS, TEXTS};
+use crate::generate::{self, Aim, Ask, Call, AIMS, DAMAGES, RELATIONS, ROW_DAMAGES, TEXTS};
 use crate::instant::{self, DAY};
 use crate::library::{Library, Opened};
 use crate::random::Random;
@@ -447,38 +448,64 @@ pub fn record_case(
     })
 }
 
-/// A call on the same buffer by both: what they answer, and every byte of the buffer afterwards.
+/// A roster's buffer and the row beside it.
+#[derive(Clone, PartialEq, Eq)]
+struct Kept {
+    buffer: Vec<u8>,
+    row: Vec<u64>,
+}
+
+impl Kept {
+    fn of(buffer: &[u8], records: &[Record]) -> Kept {
+        Kept { buffer: buffer.to_vec(), row: roster::row_of(records) }
+    }
+
+    fn lent(&self) -> Lent<'_> {
+        (&self.buffer, &self.row)
+    }
+}
+
+/// A call on the same roster by both: what they answer, and all of buffer and row afterwards.
 fn call_both(
     call: &Call,
-    buffer: &[u8],
+    kept: &Kept,
     libraries: (&dyn Library, &dyn Library),
     tally: &mut Tally,
-) -> Result<Vec<u8>, String> {
+) -> Result<Kept, String> {
     let (one, other) = libraries;
-    let (mut first, mut second) = (buffer.to_vec(), buffer.to_vec());
+    let (mut first, mut second) = (kept.clone(), kept.clone());
     let (what, refusal, told) = match call {
         Call::Lodge(line1, line2) => {
-            let a = one.lodge(&mut first, line1, line2);
-            let b = other.lodge(&mut second, line1, line2);
+            let a = one.lodge(&mut first.buffer, &mut first.row, line1, line2);
+            let b = other.lodge(&mut second.buffer, &mut second.row, line1, line2);
             let lines = (line1.escape_ascii().to_string(), line2.escape_ascii().to_string());
             let refusal = a.err().map_or(0, |refusal| refusal.number());
             (format!("lodging {lines:?}"), refusal, same_or("answer", a == b, &a, &b))
         }
         Call::Withdraw(number) => {
-            let (a, b) = (one.withdraw(&mut first, *number), other.withdraw(&mut second, *number));
+            let a = one.withdraw(&mut first.buffer, &mut first.row, *number);
+            let b = other.withdraw(&mut second.buffer, &mut second.row, *number);
             (format!("withdrawing {number}"), a.err().unwrap_or(0), same_or("answer", a == b, &a, &b))
+        }
+        Call::Fill => {
+            let a = one.fill_row(&first.buffer, &mut first.row);
+            let b = other.fill_row(&second.buffer, &mut second.row);
+            ("filling".to_string(), a.err().unwrap_or(0), same_or("answer", a == b, &a, &b))
         }
     };
     let kind = what.split(' ').next().expect("a word");
     tally.add(format!("{kind}: refusal {refusal:>2}"), 1);
     told.map_err(|difference| format!("{what}: {difference}"))?;
-    let text = |buffer: &[u8]| buffer.escape_ascii().to_string();
-    same_or(&format!("{what}: buffer"), first == second, &text(&first), &text(&second))?;
+    let text = |kept: &Kept| kept.buffer.escape_ascii().to_string();
+    same_or(&format!("{what}: buffer"), first.buffer == second.buffer, &text(&first), &text(&second))?;
+    same_or(&format!("{what}: row"), first.row == second.row, &first.row, &second.row)?;
     if refusal == 0 {
-        lodged(call, buffer, tally);
+        lodged(call, &kept.buffer, tally);
     }
-    let stays = refusal == 0 || first == buffer;
-    same_or(&format!("{what}: buffer after a refusal"), stays, &text(buffer), &text(&first))?;
+    let stays = refusal == 0 || first.buffer == kept.buffer;
+    same_or(&format!("{what}: buffer after a refusal"), stays, &text(kept), &text(&first))?;
+    let stays = refusal == 0 || first.row == kept.row;
+    same_or(&format!("{what}: row after a refusal"), stays, &kept.row, &first.row)?;
     Ok(first)
 }
 
@@ -496,24 +523,50 @@ fn lodged(call: &Call, before: &[u8], tally: &mut Tally) {
     );
 }
 
-/// Calls on one roster, one after the other, and on damaged forms of it.
+/// Calls on one roster, one after the other, and on damaged forms of it and of its row.
 fn call_all(
     random: &mut Random,
     libraries: (&dyn Library, &dyn Library),
     tally: &mut Tally,
 ) -> Result<(), String> {
-    let (records, mut buffer) = generate::roster(random);
+    let (records, buffer) = generate::roster(random);
     tally.add(format!("roster: {:>2} pairs", records.len()), 1);
+    let whole = Kept::of(&buffer, &records);
+    let mut kept = whole.clone();
     for _ in 0..12 {
         let call = generate::call(random, &records);
-        buffer = call_both(&call, &buffer, libraries, tally)?;
+        kept = call_both(&call, &kept, libraries, tally)?;
         let damage = *random.pick(&DAMAGES);
-        if let Some(damaged) = generate::damaged_roster(random, &records, damage) {
-            let call = generate::call(random, &records);
-            let stayed = call_both(&call, &damaged, libraries, tally)
-                .map_err(|what| format!("{what}\nafter {damage}"))?;
-            tally.add(format!("damage: {damage}"), (stayed == damaged) as u64);
+        let damaged = generate::damaged_roster(random, &records, damage);
+        if let Some(buffer) = damaged {
+            let damaged = Kept { buffer, ..whole.clone() };
+            damaged_call(random, &records, &damaged, damage, libraries, tally)?;
         }
+        let damage = *random.pick(&ROW_DAMAGES);
+        let damaged = generate::damaged_row(random, &whole.row, records.len(), damage);
+        if let Some(row) = damaged {
+            let damaged = Kept { row, ..whole.clone() };
+            damaged_call(random, &records, &damaged, damage, libraries, tally)?;
+        }
+    }
+    Ok(())
+}
+
+/// A call on what was damaged.
+fn damaged_call(
+    random: &mut Random,
+    records: &[Record],
+    damaged: &Kept,
+    damage: &str,
+    libraries: (&dyn Library, &dyn Library),
+    tally: &mut Tally,
+) -> Result<(), String> {
+    let call = generate::call(random, records);
+    let after =
+        call_both(&call, damaged, libraries, tally).map_err(|what| format!("{what}\nafter {damage}"))?;
+    tally.add(format!("damage: {damage}"), (after == *damaged) as u64);
+    if matches!(call, Call::Fill) && after != *damaged {
+        tally.add("filled: another row", 1);
     }
     Ok(())
 }
@@ -587,7 +640,7 @@ pub fn report_case(
 
 /// Both list what changed, into rooms of the same size: what they answer, and every byte of the rooms.
 fn list_both(
-    rosters: (&[u8], &[u8]),
+    rosters: (Lent, Lent),
     room: usize,
     libraries: (&dyn Library, &dyn Library),
     tally: &mut Tally,
@@ -622,9 +675,10 @@ fn compare_all(
     tally: &mut Tally,
 ) -> Result<(), String> {
     let [(records, first), (others, second)] = generate::two_rosters(random, relation);
+    let (first, second) = (Kept::of(&first, &records), Kept::of(&second, &others));
     tally.add(format!("rosters: {relation}"), 1);
     let mut room = vec![0; LISTING_ROOM];
-    let size = match libraries.1.changes(&first, &second, &mut room) {
+    let size = match libraries.1.changes(first.lent(), second.lent(), &mut room) {
         Ok(size) => size,
         Err(refusal) => return Err(format!("changes: {refusal:?} in {LISTING_ROOM} bytes")),
     };
@@ -632,19 +686,37 @@ fn compare_all(
     for room in
         [LISTING_ROOM, size + 1, size, size.saturating_sub(1), random.below(size as u64 + 1) as usize, 0]
     {
-        list_both((&first, &second), room, libraries, tally)?;
-        list_both((&second, &first), room, libraries, tally)?;
+        list_both((first.lent(), second.lent()), room, libraries, tally)?;
+        list_both((second.lent(), first.lent()), room, libraries, tally)?;
     }
     let damage = *random.pick(&DAMAGES);
-    let damaged = generate::damaged_roster(random, &records, damage);
-    let other = generate::damaged_roster(random, &others, damage);
-    for (a, b) in [
-        (damaged.as_deref(), Some(&second[..])),
-        (Some(&first[..]), other.as_deref()),
-        (damaged.as_deref(), other.as_deref()),
-    ] {
+    let with = |buffer, kept: &Kept| Kept { buffer, ..kept.clone() };
+    let damaged = generate::damaged_roster(random, &records, damage).map(|buffer| with(buffer, &first));
+    let other = generate::damaged_roster(random, &others, damage).map(|buffer| with(buffer, &second));
+    list_damaged((&first, &second), (damaged, other), size, libraries, tally)
+        .map_err(|what| format!("{what}\nafter {damage}"))?;
+    let damage = *random.pick(&ROW_DAMAGES);
+    let with = |row, kept: &Kept| Kept { row, ..kept.clone() };
+    let damaged =
+        generate::damaged_row(random, &first.row, records.len(), damage).map(|row| with(row, &first));
+    let other =
+        generate::damaged_row(random, &second.row, others.len(), damage).map(|row| with(row, &second));
+    list_damaged((&first, &second), (damaged, other), size, libraries, tally)
+        .map_err(|what| format!("{what}\nafter {damage}"))
+}
+
+/// The first damaged, the second, and both.
+fn list_damaged(
+    whole: (&Kept, &Kept),
+    damaged: (Option<Kept>, Option<Kept>),
+    size: usize,
+    libraries: (&dyn Library, &dyn Library),
+    tally: &mut Tally,
+) -> Result<(), String> {
+    let (first, second) = (damaged.0.as_ref(), damaged.1.as_ref());
+    for (a, b) in [(first, Some(whole.1)), (Some(whole.0), second), (first, second)] {
         if let (Some(a), Some(b)) = (a, b) {
-            list_both((a, b), size, libraries, tally).map_err(|what| format!("{what}\nafter {damage}"))?;
+            list_both((a.lent(), b.lent()), size, libraries, tally)?;
         }
     }
     Ok(())

@@ -424,6 +424,7 @@ pub fn damaged_pair(random: &mut Random) -> (Vec<u8>, Vec<u8>) {
 pub enum Call {
     Lodge(Vec<u8>, Vec<u8>),
     Withdraw(u64),
+    Fill,
 }
 
 fn packed(records: &[Record]) -> Vec<u8> {
@@ -436,6 +437,12 @@ fn packed(records: &[Record]) -> Vec<u8> {
 pub fn roster(random: &mut Random) -> (Vec<Record>, Vec<u8>) {
     let count = *random.pick(&[0, 1, 2, 5, 20, 62, PLACES - 1, PLACES, PLACES, PLACES]);
     let mut records: Vec<Record> = (0..4 * count).map(|_| anything(random)).collect();
+    // The instant 0, which a row has past the last pair, too.
+    for record in &mut records {
+        if random.one_in(8) {
+            (record.year, record.day) = (1957, 1_0000_0000);
+        }
+    }
     records.sort_by_key(|record| record.number);
     records.dedup_by_key(|record| record.number);
     while records.len() > count {
@@ -472,7 +479,8 @@ fn lodging(random: &mut Random, records: &[Record]) -> Call {
 
 /// A call: of the numbers of the records, or of others.
 pub fn call(random: &mut Random, records: &[Record]) -> Call {
-    match random.below(3) {
+    match random.below(4) {
+        3 if random.one_in(3) => Call::Fill,
         0 if records.is_empty() || random.one_in(4) => {
             Call::Withdraw(*random.pick(&[0, 5, 99_999, 100_000, 1 << 32, u64::MAX]))
         }
@@ -619,6 +627,47 @@ pub fn damaged_roster(random: &mut Random, records: &[Record], damage: &str) -> 
         _ => return None,
     }
     Some(bytes)
+}
+
+/// What may have happened to a row, by name. What comes out is now and then still the roster's.
+pub const ROW_DAMAGES: [&str; 7] = [
+    "row: another length",
+    "row: an instant off",
+    "row: a zero for an instant",
+    "row: an instant after the end",
+    "row: instants exchanged",
+    "row: moved by a place",
+    "row: anything",
+];
+
+/// The row of so many pairs, damaged; None where there are too few of them for that.
+pub fn damaged_row(random: &mut Random, row: &[u64], pairs: usize, damage: &str) -> Option<Vec<u64>> {
+    let mut row = row.to_vec();
+    let place = |random: &mut Random, from: usize, to: usize| {
+        (from < to).then(|| from + random.below((to - from) as u64) as usize)
+    };
+    match damage {
+        "row: another length" => {
+            row.resize(*random.pick(&[0, 1, pairs, PLACES - 1, PLACES + 1, 2 * PLACES]), 0);
+        }
+        "row: an instant off" => {
+            let at = place(random, 0, pairs)?;
+            row[at] = row[at].wrapping_add_signed(*random.pick(&[1, -1, 864, -864, i64::MAX, i64::MIN]));
+        }
+        "row: a zero for an instant" => row[place(random, 0, pairs)?] = 0,
+        "row: an instant after the end" => {
+            let at = place(random, pairs, PLACES)?;
+            row[at] = *random.pick(&[1, 864, u64::MAX, row[0]]);
+        }
+        "row: instants exchanged" => {
+            let at = place(random, 1, pairs)?;
+            row.swap(at - 1, at);
+        }
+        "row: moved by a place" if random.one_in(2) => row.rotate_left(1),
+        "row: moved by a place" => row.rotate_right(1),
+        _ => row.fill_with(|| random.next_u64()),
+    }
+    Some(row)
 }
 
 // ----------------------------------------------------------------- requests

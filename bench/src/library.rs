@@ -1,7 +1,7 @@
 //! What the comparison and the benchmark need of a library: the proved one,
 //! called over its C boundary, or one of the port's own.
 
-use crate::changes;
+use crate::changes::{self, Lent};
 use crate::elementary::{Document, Elementary};
 use crate::instant::{self, SPAN_LIMIT};
 use crate::report::{self, NUMBERS};
@@ -41,15 +41,23 @@ pub trait Library {
     fn record(&self, line1: &[u8], line2: &[u8]) -> Result<Record, Refusal>;
     /// Writes line 1 or 2 of a record at the front of the room lent; or 16, 17.
     fn write(&self, record: &Record, which: u8, room: &mut [u8]) -> Result<(), u8>;
-    /// Lodges a pair in the roster lent; or a refusal, and the roster stays.
-    fn lodge(&self, roster: &mut [u8], line1: &[u8], line2: &[u8]) -> Result<(), roster::Refusal>;
-    /// Withdraws a number from the roster lent; or 22, 21, and the roster stays.
-    fn withdraw(&self, roster: &mut [u8], number: u64) -> Result<(), u8>;
+    /// Lodges a pair in the roster lent with its row; or a refusal, and both stay.
+    fn lodge(
+        &self,
+        roster: &mut [u8],
+        row: &mut [u64],
+        line1: &[u8],
+        line2: &[u8],
+    ) -> Result<(), roster::Refusal>;
+    /// Withdraws a number from the roster lent with its row; or 22, 21, and both stay.
+    fn withdraw(&self, roster: &mut [u8], row: &mut [u64], number: u64) -> Result<(), u8>;
+    /// Fills the row of the roster lent; or 22, and the row stays.
+    fn fill_row(&self, roster: &[u8], row: &mut [u64]) -> Result<(), u8>;
     /// Counts the pairs of a text into the room lent; or 23, 24, 17, and the room stays.
     fn report(&self, text: &[u8], room: &mut [u64]) -> Result<(), u8>;
     /// Lists what changed between two rosters at the front of the room lent: its bytes; or 22 and which,
     /// 17, and the room stays.
-    fn changes(&self, first: &[u8], second: &[u8], room: &mut [u8]) -> Result<usize, (u8, u8)>;
+    fn changes(&self, first: Lent, second: Lent, room: &mut [u8]) -> Result<usize, (u8, u8)>;
     /// Reads and opens a pair.
     fn open(&self, line1: &[u8], line2: &[u8]) -> Result<Box<dyn Opened>, Unopened>;
     /// For timing: reads a pair.
@@ -58,6 +66,8 @@ pub trait Library {
     fn lodger(&self, roster: &[u8], line1: &[u8], line2: &[u8]) -> Box<dyn Timed>;
     /// For timing: counts the pairs of a text.
     fn reporter(&self, text: &[u8]) -> Box<dyn Timed>;
+    /// For timing: the pairs of a roster by age.
+    fn ager(&self, roster: &[u8]) -> Box<dyn Timed>;
     /// For timing: lists what changed between two rosters, into a room made ready before.
     fn comparer(&self, first: &[u8], second: &[u8]) -> Box<dyn Timed>;
     /// For timing: reads and opens a pair into memory made ready before.
@@ -142,19 +152,29 @@ impl<E: Elementary + Copy + 'static> Library for Port<E> {
         tle::write(record, which, room)
     }
 
-    fn lodge(&self, roster: &mut [u8], line1: &[u8], line2: &[u8]) -> Result<(), roster::Refusal> {
-        roster::lodge(roster, line1, line2)
+    fn lodge(
+        &self,
+        roster: &mut [u8],
+        row: &mut [u64],
+        line1: &[u8],
+        line2: &[u8],
+    ) -> Result<(), roster::Refusal> {
+        roster::lodge(roster, row, line1, line2)
     }
 
-    fn withdraw(&self, roster: &mut [u8], number: u64) -> Result<(), u8> {
-        roster::withdraw(roster, number)
+    fn withdraw(&self, roster: &mut [u8], row: &mut [u64], number: u64) -> Result<(), u8> {
+        roster::withdraw(roster, row, number)
     }
 
     fn report(&self, text: &[u8], room: &mut [u64]) -> Result<(), u8> {
         report::report::<E>(text, room)
     }
 
-    fn changes(&self, first: &[u8], second: &[u8], room: &mut [u8]) -> Result<usize, (u8, u8)> {
+    fn fill_row(&self, roster: &[u8], row: &mut [u64]) -> Result<(), u8> {
+        roster::fill_row(roster, row)
+    }
+
+    fn changes(&self, first: Lent, second: Lent, room: &mut [u8]) -> Result<usize, (u8, u8)> {
         changes::changes(first, second, room)
     }
 
@@ -175,6 +195,7 @@ impl<E: Elementary + Copy + 'static> Library for Port<E> {
     fn lodger(&self, roster: &[u8], line1: &[u8], line2: &[u8]) -> Box<dyn Timed> {
         Box::new(Lodger {
             roster: roster.to_vec(),
+            row: filled(roster),
             line1: line1.to_vec(),
             line2: line2.to_vec(),
             lodge: roster::lodge,
@@ -185,10 +206,14 @@ impl<E: Elementary + Copy + 'static> Library for Port<E> {
         Box::new(Reporter { text: text.to_vec(), room: [0; NUMBERS], report: report::report::<E> })
     }
 
+    fn ager(&self, roster: &[u8]) -> Box<dyn Timed> {
+        Box::new(Ager { roster: roster.to_vec() })
+    }
+
     fn comparer(&self, first: &[u8], second: &[u8]) -> Box<dyn Timed> {
         Box::new(Comparer {
-            first: first.to_vec(),
-            second: second.to_vec(),
+            first: (first.to_vec(), filled(first)),
+            second: (second.to_vec(), filled(second)),
             room: vec![0; COMPARER_ROOM],
             changes: changes::changes,
         })
@@ -229,12 +254,20 @@ impl<R> Timed for Reader<R> {
     }
 }
 
+/// The row of a roster.
+pub fn filled(roster: &[u8]) -> Vec<u64> {
+    let mut row = vec![0; roster::PLACES];
+    roster::fill_row(roster, &mut row).expect("a roster");
+    row
+}
+
 /// A roster, two lines to be lodged in it, and what lodges them.
 pub struct Lodger<R> {
     pub roster: Vec<u8>,
+    pub row: Vec<u64>,
     pub line1: Vec<u8>,
     pub line2: Vec<u8>,
-    pub lodge: fn(&mut [u8], &[u8], &[u8]) -> R,
+    pub lodge: fn(&mut [u8], &mut [u64], &[u8], &[u8]) -> R,
 }
 
 impl<R> Timed for Lodger<R> {
@@ -243,6 +276,7 @@ impl<R> Timed for Lodger<R> {
     fn run(&mut self) {
         let _ = black_box((self.lodge)(
             black_box(&mut self.roster),
+            black_box(&mut self.row),
             black_box(&self.line1),
             black_box(&self.line2),
         ));
@@ -264,24 +298,39 @@ impl<R> Timed for Reporter<R> {
     }
 }
 
+/// A roster whose pairs are put in order by age without a row: each is read for its epoch.
+struct Ager {
+    roster: Vec<u8>,
+}
+
+impl Timed for Ager {
+    fn renew(&mut self) {}
+
+    fn run(&mut self) {
+        let mut records = roster::records(black_box(&self.roster)).expect("a roster");
+        records.sort_by_key(|record| record.epoch());
+        black_box(records);
+    }
+}
+
 /// The room of a comparison that is timed: more than any listing has.
 pub const COMPARER_ROOM: usize = 30_000;
 
 /// Two rosters, a room, and what lists the changes there.
 pub struct Comparer<C> {
-    pub first: Vec<u8>,
-    pub second: Vec<u8>,
+    pub first: (Vec<u8>, Vec<u64>),
+    pub second: (Vec<u8>, Vec<u64>),
     pub room: Vec<u8>,
     pub changes: C,
 }
 
-impl<R, C: FnMut(&[u8], &[u8], &mut [u8]) -> R> Timed for Comparer<C> {
+impl<R, C: FnMut(Lent, Lent, &mut [u8]) -> R> Timed for Comparer<C> {
     fn renew(&mut self) {}
 
     fn run(&mut self) {
         let _ = black_box((self.changes)(
-            black_box(&self.first),
-            black_box(&self.second),
+            black_box((&self.first.0, &self.first.1)),
+            black_box((&self.second.0, &self.second.1)),
             black_box(&mut self.room),
         ));
     }
@@ -386,19 +435,29 @@ impl<E: Elementary + Copy + 'static> Library for Restarting<E> {
         self.0.write(record, which, room)
     }
 
-    fn lodge(&self, roster: &mut [u8], line1: &[u8], line2: &[u8]) -> Result<(), roster::Refusal> {
-        self.0.lodge(roster, line1, line2)
+    fn lodge(
+        &self,
+        roster: &mut [u8],
+        row: &mut [u64],
+        line1: &[u8],
+        line2: &[u8],
+    ) -> Result<(), roster::Refusal> {
+        self.0.lodge(roster, row, line1, line2)
     }
 
-    fn withdraw(&self, roster: &mut [u8], number: u64) -> Result<(), u8> {
-        self.0.withdraw(roster, number)
+    fn withdraw(&self, roster: &mut [u8], row: &mut [u64], number: u64) -> Result<(), u8> {
+        self.0.withdraw(roster, row, number)
     }
 
     fn report(&self, text: &[u8], room: &mut [u64]) -> Result<(), u8> {
         self.0.report(text, room)
     }
 
-    fn changes(&self, first: &[u8], second: &[u8], room: &mut [u8]) -> Result<usize, (u8, u8)> {
+    fn fill_row(&self, roster: &[u8], row: &mut [u64]) -> Result<(), u8> {
+        self.0.fill_row(roster, row)
+    }
+
+    fn changes(&self, first: Lent, second: Lent, room: &mut [u8]) -> Result<usize, (u8, u8)> {
         self.0.changes(first, second, room)
     }
 
@@ -412,6 +471,10 @@ impl<E: Elementary + Copy + 'static> Library for Restarting<E> {
 
     fn reader(&self, line1: &[u8], line2: &[u8]) -> Box<dyn Timed> {
         self.0.reader(line1, line2)
+    }
+
+    fn ager(&self, roster: &[u8]) -> Box<dyn Timed> {
+        self.0.ager(roster)
     }
 
     fn lodger(&self, roster: &[u8], line1: &[u8], line2: &[u8]) -> Box<dyn Timed> {

@@ -1,13 +1,14 @@
 //! The proved library, called over its C boundary by the safe wrapper in rust/.
 
+use crate::changes::Lent;
 use crate::library::{
-    Comparer, Library, Lodger, Opened, Reader, Reporter, Timed, Told, Unopened, COMPARER_ROOM,
+    filled, Comparer, Library, Lodger, Opened, Reader, Reporter, Timed, Told, Unopened, COMPARER_ROOM,
 };
 use crate::report::NUMBERS;
 use crate::request::{Row, Saved};
 use crate::roster;
 use crate::tle::{self, Exponential};
-use saddlekerf::{Field, Line, Microseconds, Record, Refusal, Rooms, Satellite, State, Uncompared};
+use saddlekerf::{Field, Line, Microseconds, Record, Refusal, Rooms, Roster, Satellite, State, Uncompared};
 use std::hint::black_box;
 
 pub struct Proved;
@@ -155,24 +156,34 @@ impl Library for Proved {
         }
     }
 
-    fn lodge(&self, roster: &mut [u8], line1: &[u8], line2: &[u8]) -> Result<(), roster::Refusal> {
-        saddlekerf::lodge(roster, line1, line2).map_err(unlodged)
+    fn lodge(
+        &self,
+        roster: &mut [u8],
+        row: &mut [u64],
+        line1: &[u8],
+        line2: &[u8],
+    ) -> Result<(), roster::Refusal> {
+        saddlekerf::lodge(roster, row, line1, line2).map_err(unlodged)
     }
 
-    fn withdraw(&self, roster: &mut [u8], number: u64) -> Result<(), u8> {
-        saddlekerf::withdraw(roster, number).map_err(Refusal::number)
+    fn withdraw(&self, roster: &mut [u8], row: &mut [u64], number: u64) -> Result<(), u8> {
+        saddlekerf::withdraw(roster, row, number).map_err(Refusal::number)
     }
 
     fn report(&self, text: &[u8], room: &mut [u64]) -> Result<(), u8> {
         saddlekerf::count_text(text, room).map_err(Refusal::number)
     }
 
-    fn changes(&self, first: &[u8], second: &[u8], room: &mut [u8]) -> Result<usize, (u8, u8)> {
+    fn fill_row(&self, roster: &[u8], row: &mut [u64]) -> Result<(), u8> {
+        saddlekerf::fill_row(roster, row).map_err(Refusal::number)
+    }
+
+    fn changes(&self, first: Lent, second: Lent, room: &mut [u8]) -> Result<usize, (u8, u8)> {
         let which = |refusal| match refusal {
             Uncompared::NoRoster(which) => (22, which as u8),
             Uncompared::Room => (17, 0),
         };
-        saddlekerf::changes(first, second, room).map(|text| text.len()).map_err(which)
+        saddlekerf::changes(first.0, first.1, second.0, second.1, room).map(|text| text.len()).map_err(which)
     }
 
     fn open(&self, line1: &[u8], line2: &[u8]) -> Result<Box<dyn Opened>, Unopened> {
@@ -189,6 +200,7 @@ impl Library for Proved {
     fn lodger(&self, roster: &[u8], line1: &[u8], line2: &[u8]) -> Box<dyn Timed> {
         Box::new(Lodger {
             roster: roster.to_vec(),
+            row: filled(roster),
             line1: line1.to_vec(),
             line2: line2.to_vec(),
             lodge: saddlekerf::lodge,
@@ -199,13 +211,18 @@ impl Library for Proved {
         Box::new(Reporter { text: text.to_vec(), room: [0; NUMBERS], report: saddlekerf::count_text })
     }
 
+    fn ager(&self, roster: &[u8]) -> Box<dyn Timed> {
+        let mut bytes = roster.to_vec();
+        Box::new(Ager { roster: Roster::lent(&mut bytes).expect("a roster").copied() })
+    }
+
     fn comparer(&self, first: &[u8], second: &[u8]) -> Box<dyn Timed> {
         Box::new(Comparer {
-            first: first.to_vec(),
-            second: second.to_vec(),
+            first: (first.to_vec(), filled(first)),
+            second: (second.to_vec(), filled(second)),
             room: vec![0; COMPARER_ROOM],
-            changes: |first: &[u8], second: &[u8], room: &mut [u8]| {
-                saddlekerf::changes(first, second, room).map(|text| text.len())
+            changes: |first: Lent, second: Lent, room: &mut [u8]| {
+                saddlekerf::changes(first.0, first.1, second.0, second.1, room).map(|text| text.len())
             },
         })
     }
@@ -337,5 +354,18 @@ impl Timed for Lister {
         let rows = self.satellite.list(black_box(&self.times), &mut rooms);
         black_box(rows.expect("a lawful list").strides());
         black_box(&mut self.memory);
+    }
+}
+
+/// A roster whose pairs are put in order by age, by its row.
+struct Ager {
+    roster: Roster<'static>,
+}
+
+impl Timed for Ager {
+    fn renew(&mut self) {}
+
+    fn run(&mut self) {
+        black_box(black_box(&self.roster).by_age());
     }
 }

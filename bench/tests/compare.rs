@@ -1,5 +1,6 @@
 //! The short run of the comparison; `cargo run --release --bin compare` is the long one.
 
+use port::changes::Lent;
 use port::compare::{
     changes_case, damaged_case, handed_case, record_case, report_case, roster_case, whole_case, Tally,
 };
@@ -113,7 +114,12 @@ fn rosters() {
     for name in ["lodged: a new number", "lodged: an equal epoch", "lodged: a later epoch"] {
         assert!(tally.of(name) >= 50, "{name}: {}", tally.of(name));
     }
-    for damage in port::generate::DAMAGES {
+    for number in [0, 22] {
+        let name = format!("filling: refusal {number:>2}");
+        assert!(tally.of(&name) >= 50, "{name}: {}", tally.of(&name));
+    }
+    assert!(tally.of("filled: another row") >= 50, "{tally}");
+    for damage in port::generate::DAMAGES.into_iter().chain(port::generate::ROW_DAMAGES) {
         let name = format!("damage: {damage}");
         assert!(tally.of(&name) >= 50, "{name}: {}", tally.of(&name));
     }
@@ -327,6 +333,16 @@ enum Slip {
     ExactRoom,
     /// A byte of a room after a refused comparison.
     RoomRefused,
+    /// The instant of the pair that was replaced, or the row before it, kept.
+    RowKept,
+    /// The row unshifted after a withdrawal.
+    RowUnshifted,
+    /// A row that disagrees with the pairs taken.
+    RowNotJudged,
+    /// An instant of the row after a refused call.
+    RowRefused,
+    /// What stood past the last pair left by filling.
+    FilledEnd,
 }
 
 /// The proved library with a slip. Rows slip only once, after `at` others that could have.
@@ -397,17 +413,31 @@ impl Library for Slipping {
         answer
     }
 
-    fn lodge(&self, buffer: &mut [u8], line1: &[u8], line2: &[u8]) -> Result<(), roster::Refusal> {
-        let answer = Proved.lodge(buffer, line1, line2);
+    fn lodge(
+        &self,
+        buffer: &mut [u8],
+        row: &mut [u64],
+        line1: &[u8],
+        line2: &[u8],
+    ) -> Result<(), roster::Refusal> {
+        let before = row.to_vec();
+        let answer = Proved.lodge(buffer, row, line1, line2);
         match (self.slip, answer) {
             (Slip::Older, Err(roster::Refusal::Refused(20))) => return Ok(()),
             (Slip::Lodged, Ok(())) => buffer[7] ^= 1,
+            (Slip::RowKept, Ok(())) => row.copy_from_slice(&before),
             (Slip::RosterRefused, Err(_)) if !buffer.is_empty() => buffer[0] ^= 1,
+            (Slip::RowRefused, Err(_)) if !row.is_empty() => row[0] ^= 1,
+            (Slip::RowNotJudged, Err(roster::Refusal::Refused(22)))
+                if Proved.fill_row(buffer, row).is_ok() =>
+            {
+                return Proved.lodge(buffer, row, line1, line2);
+            }
             (Slip::BlankForZero, Err(roster::Refusal::Refused(22))) if buffer.contains(&b' ') => {
                 let mut mended = buffer.to_vec();
                 let end = mended.iter().rposition(|&byte| byte > b' ').map_or(0, |last| last + 1);
                 mended[end..].fill(0);
-                if Proved.lodge(&mut mended, line1, line2).is_ok() {
+                if Proved.lodge(&mut mended, row, line1, line2).is_ok() {
                     buffer.copy_from_slice(&mended);
                     return Ok(());
                 }
@@ -417,14 +447,15 @@ impl Library for Slipping {
         answer
     }
 
-    fn withdraw(&self, buffer: &mut [u8], number: u64) -> Result<(), u8> {
-        let before = buffer.to_vec();
-        let answer = Proved.withdraw(buffer, number);
+    fn withdraw(&self, buffer: &mut [u8], row: &mut [u64], number: u64) -> Result<(), u8> {
+        let before = (buffer.to_vec(), row.to_vec());
+        let answer = Proved.withdraw(buffer, row, number);
         match (self.slip, answer) {
             (Slip::LeftBehind, Ok(())) => {
                 let used = buffer.iter().rposition(|&byte| byte != 0).map_or(0, |last| last + 1);
-                buffer[used..].copy_from_slice(&before[used..]);
+                buffer[used..].copy_from_slice(&before.0[used..]);
             }
+            (Slip::RowUnshifted, Ok(())) => row.copy_from_slice(&before.1),
             (Slip::Absent, Err(21)) => return Ok(()),
             _ => {}
         }
@@ -444,7 +475,16 @@ impl Library for Slipping {
         answer
     }
 
-    fn changes(&self, first: &[u8], second: &[u8], room: &mut [u8]) -> Result<usize, (u8, u8)> {
+    fn fill_row(&self, buffer: &[u8], row: &mut [u64]) -> Result<(), u8> {
+        let last = row.last().copied();
+        let answer = Proved.fill_row(buffer, row);
+        if let (Slip::FilledEnd, Ok(()), Some(last)) = (self.slip, answer, last) {
+            *row.last_mut().unwrap() = last;
+        }
+        answer
+    }
+
+    fn changes(&self, first: Lent, second: Lent, room: &mut [u8]) -> Result<usize, (u8, u8)> {
         if matches!(self.slip, Slip::Exchanged) {
             return Proved.changes(second, first, room);
         }
@@ -459,6 +499,10 @@ impl Library for Slipping {
     }
 
     fn reporter(&self, _: &[u8]) -> Box<dyn Timed> {
+        unreachable!()
+    }
+
+    fn ager(&self, _: &[u8]) -> Box<dyn Timed> {
         unreachable!()
     }
 
@@ -664,6 +708,11 @@ fn every_other_slip_is_seen() {
         (Slip::OtherRoster, ["changes"; 2]),
         (Slip::ExactRoom, ["changes"; 2]),
         (Slip::RoomRefused, ["changes"; 2]),
+        (Slip::RowKept, ["lodging"; 2]),
+        (Slip::RowUnshifted, ["withdrawing"; 2]),
+        (Slip::RowNotJudged, ["lodging"; 2]),
+        (Slip::RowRefused, ["lodging"; 2]),
+        (Slip::FilledEnd, ["filling"; 2]),
     ] {
         let what = found(slip, 0);
         assert!(starts.iter().any(|start| what.starts_with(start)), "{slip:?}: {what}");

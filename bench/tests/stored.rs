@@ -117,7 +117,8 @@ fn what_changed() {
     assert!(second == stored("crates/what_changed/data/today"));
     assert!(text == stored("crates/what_changed/stdout"));
     let mut room = vec![0; text.len()];
-    assert_eq!(port::changes::changes(&first, &second, &mut room), Ok(text.len()));
+    let (row1, row2) = (port::library::filled(&first), port::library::filled(&second));
+    assert_eq!(port::changes::changes((&first, &row1), (&second, &row2), &mut room), Ok(text.len()));
     assert!(room == text);
 }
 

@@ -20,7 +20,7 @@ pub const FIELDS: usize = 22;
 
 /// The version of this package, as the header and the archive tell theirs.
 #[cfg(test)]
-pub const VERSION: u64 = 200;
+pub const VERSION: u64 = 300;
 
 /// f64s of one state.
 const STATE: usize = 6;
@@ -35,7 +35,7 @@ mod c {
     extern "C" {
         pub fn saddlekerf_version() -> u64;
 
-        pub fn saddlekerf_abi_1() -> u64;
+        pub fn saddlekerf_abi_2() -> u64;
 
         pub fn saddlekerf_read(
             line1: *const u8,
@@ -80,16 +80,31 @@ mod c {
             out_length: usize,
         ) -> u64;
 
+        pub fn saddlekerf_fill_row(
+            roster: *const u8,
+            roster_length: usize,
+            row: *mut u64,
+            row_length: usize,
+        ) -> u64;
+
         pub fn saddlekerf_lodge(
             roster: *mut u8,
             roster_length: usize,
+            row: *mut u64,
+            row_length: usize,
             line1: *const u8,
             line1_length: usize,
             line2: *const u8,
             line2_length: usize,
         ) -> u64;
 
-        pub fn saddlekerf_withdraw(roster: *mut u8, roster_length: usize, number: u64) -> u64;
+        pub fn saddlekerf_withdraw(
+            roster: *mut u8,
+            roster_length: usize,
+            row: *mut u64,
+            row_length: usize,
+            number: u64,
+        ) -> u64;
 
         pub fn saddlekerf_report(
             text: *const u8,
@@ -101,8 +116,12 @@ mod c {
         pub fn saddlekerf_changes(
             first: *const u8,
             first_length: usize,
+            row1: *const u64,
+            row1_length: usize,
             second: *const u8,
             second_length: usize,
+            row2: *const u64,
+            row2_length: usize,
             out: *mut u8,
             out_length: usize,
         ) -> u64;
@@ -148,7 +167,7 @@ mod c {
 /// An archive whose functions, answers or layouts of memory differ from those that are called here
 /// does not link: the name of this symbol changes with them.
 #[used]
-static ABI: unsafe extern "C" fn() -> u64 = c::saddlekerf_abi_1;
+static ABI: unsafe extern "C" fn() -> u64 = c::saddlekerf_abi_2;
 
 pub fn version() -> u64 {
     // SAFETY: it takes nothing and touches nothing.
@@ -216,12 +235,19 @@ pub fn write(fields: &[i64], line: u32, out: &mut [u8]) -> u64 {
     unsafe { c::saddlekerf_write(fields.as_ptr(), fields.len(), line, out.as_mut_ptr(), out.len()) }
 }
 
-pub fn lodge(roster: &mut [u8], line1: &[u8], line2: &[u8]) -> u64 {
-    // SAFETY: all three are slices; `roster` is mutable, so that it overlaps neither line.
+pub fn fill_row(roster: &[u8], row: &mut [u64]) -> u64 {
+    // SAFETY: both are slices; `row` is mutable, so that it does not overlap `roster`.
+    unsafe { c::saddlekerf_fill_row(roster.as_ptr(), roster.len(), row.as_mut_ptr(), row.len()) }
+}
+
+pub fn lodge(roster: &mut [u8], row: &mut [u64], line1: &[u8], line2: &[u8]) -> u64 {
+    // SAFETY: all four are slices, the first two mutable, so that they overlap nothing.
     unsafe {
         c::saddlekerf_lodge(
             roster.as_mut_ptr(),
             roster.len(),
+            row.as_mut_ptr(),
+            row.len(),
             line1.as_ptr(),
             line1.len(),
             line2.as_ptr(),
@@ -230,9 +256,9 @@ pub fn lodge(roster: &mut [u8], line1: &[u8], line2: &[u8]) -> u64 {
     }
 }
 
-pub fn withdraw(roster: &mut [u8], number: u64) -> u64 {
-    // SAFETY: `roster` is a mutable slice.
-    unsafe { c::saddlekerf_withdraw(roster.as_mut_ptr(), roster.len(), number) }
+pub fn withdraw(roster: &mut [u8], row: &mut [u64], number: u64) -> u64 {
+    // SAFETY: both are mutable slices, so that they do not overlap.
+    unsafe { c::saddlekerf_withdraw(roster.as_mut_ptr(), roster.len(), row.as_mut_ptr(), row.len(), number) }
 }
 
 pub fn report(text: &[u8], counts: &mut [u64]) -> u64 {
@@ -240,14 +266,18 @@ pub fn report(text: &[u8], counts: &mut [u64]) -> u64 {
     unsafe { c::saddlekerf_report(text.as_ptr(), text.len(), counts.as_mut_ptr(), counts.len()) }
 }
 
-pub fn changes(first: &[u8], second: &[u8], out: &mut [u8]) -> u64 {
-    // SAFETY: all three are slices; `out` is mutable, so that it overlaps neither roster.
+pub fn changes(first: &[u8], row1: &[u64], second: &[u8], row2: &[u64], out: &mut [u8]) -> u64 {
+    // SAFETY: all five are slices; `out` is mutable, so that it overlaps nothing.
     unsafe {
         c::saddlekerf_changes(
             first.as_ptr(),
             first.len(),
+            row1.as_ptr(),
+            row1.len(),
             second.as_ptr(),
             second.len(),
+            row2.as_ptr(),
+            row2.len(),
             out.as_mut_ptr(),
             out.len(),
         )
@@ -342,6 +372,7 @@ mod tests {
         assert_eq!(defined("PLACES"), Roster::PLACES as i64);
         assert_eq!(defined("COUNTS"), Report::NUMBERS as i64);
         assert_eq!(defined("PAIRS_LIMIT"), Report::PAIRS_LIMIT as i64);
+        assert_eq!(defined("ROW"), Roster::PLACES as i64);
         assert_eq!(defined("VERSION"), VERSION as i64);
     }
 
@@ -353,6 +384,6 @@ mod tests {
             env!("CARGO_PKG_VERSION").split('.').map(|word| word.parse().unwrap()).collect();
         assert_eq!(10_000 * words[0] + 100 * words[1] + words[2], VERSION);
         // SAFETY: it takes nothing and touches nothing.
-        assert_eq!(unsafe { ABI() }, 1);
+        assert_eq!(unsafe { ABI() }, 2);
     }
 }

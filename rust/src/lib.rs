@@ -35,7 +35,7 @@
 //! # }
 //! ```
 //!
-//! A roster keeps up to 64 pairs, one a catalogue number, in 8,832 bytes:
+//! A roster keeps up to 64 pairs, one a catalogue number, in 8,832 bytes, and their instants in a row:
 //!
 //! ```
 //! use saddlekerf::{Refusal, Roster};
@@ -46,6 +46,7 @@
 //! let mut roster = Roster::new();
 //! roster.lodge(line1, line2)?;
 //! assert_eq!(roster.get(5).unwrap().line1, line1);
+//! assert_eq!(roster.oldest().unwrap().line1, line1);
 //! roster.withdraw(5)?;
 //! assert_eq!(roster.withdraw(5), Err(Refusal::Absent));
 //! # Ok(())
@@ -103,7 +104,7 @@ mod time;
 pub use record::{Exponential, Record};
 pub use refusal::{Field, Line, Refusal};
 pub use report::{count_text, Date, Report};
-pub use roster::{changes, lodge, withdraw, Pair, Roster, Uncompared, Which};
+pub use roster::{changes, fill_row, lodge, withdraw, Pair, Roster, Uncompared, Which};
 pub use satellite::{Answer, Rooms, Row, Rows, Satellite, State};
 pub use time::{Instant, Microseconds, Strides};
 

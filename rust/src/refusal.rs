@@ -76,7 +76,8 @@ pub enum Refusal {
     Older,
     /// 21: a roster has no pair of this number.
     Absent,
-    /// 22: a buffer is no roster, or has another length.
+    /// 22: a buffer is no roster or has another length, or the row beside it has another length or
+    /// disagrees with the pairs.
     NoRoster,
     /// 23: a text of more than 4,096 whole pairs.
     Pairs,

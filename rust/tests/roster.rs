@@ -1,6 +1,8 @@
 //! Rosters: lodged, replaced, refused, withdrawn, and every byte afterwards.
 
-use saddlekerf::{changes, lodge, withdraw, Field, Line, Record, Refusal, Roster, Uncompared, Which};
+use saddlekerf::{
+    changes, fill_row, lodge, withdraw, Field, Line, Record, Refusal, Roster, Uncompared, Which,
+};
 
 const LINE1: &[u8] = b"1 00005U 58002B   00179.78495062  .00000023  00000-0  28098-4 0  4753";
 const LINE2: &[u8] = b"2 00005  34.2682 348.7242 1859667 331.7664  19.3264 10.82419157413667";
@@ -32,6 +34,16 @@ fn lodged(roster: &mut Roster, [line1, line2]: [[u8; 69]; 2]) -> Result<(), Refu
 
 const DAY: u64 = 100_0000_0000;
 
+const ZEROS: [u64; Roster::PLACES] = [0; Roster::PLACES];
+
+/// The row of a roster, by the header's words: each pair's epoch as it is read.
+fn row(pairs: &[[[u8; 69]; 2]]) -> Vec<u64> {
+    let mut row: Vec<u64> =
+        pairs.iter().map(|[line1, line2]| saddlekerf::epoch(line1, line2).unwrap().0).collect();
+    row.resize(Roster::PLACES, 0);
+    row
+}
+
 #[test]
 fn our_spelling_by_rising_number() {
     let mut roster = Roster::new();
@@ -41,6 +53,7 @@ fn our_spelling_by_rising_number() {
     }
     let numbers = [0, 10, 20, 30, 99_999];
     assert_eq!(roster.bytes(), packed(&numbers.map(|number| pair(number, DAY))));
+    assert_eq!(roster.row(), row(&numbers.map(|number| pair(number, DAY))));
     assert_eq!(roster.len(), 5);
     assert!(roster.pairs().map(|pair| pair.record()).eq(numbers.map(|number| record(number, DAY))));
     assert!(roster.pairs().rev().map(|pair| pair.record().number).eq([99_999, 30, 20, 10, 0]));
@@ -62,6 +75,7 @@ fn the_later_epoch_stays() {
     assert_eq!(roster.bytes(), packed(&[equal]));
     assert_eq!(lodged(&mut roster, pair(7, DAY + 1)), Ok(()));
     assert_eq!(roster.bytes(), packed(&[pair(7, DAY + 1)]));
+    assert_eq!(roster.row(), row(&[pair(7, DAY + 1)]));
 }
 
 #[test]
@@ -85,26 +99,27 @@ fn sixty_four_places() {
     expected[62] = pair(126, DAY + 1);
     expected.push(pair(99_999, DAY));
     assert_eq!(roster.bytes(), packed(&expected));
+    assert_eq!(roster.row(), row(&expected));
     assert_eq!(bytes[..], packed(&expected));
 }
 
 #[test]
 fn the_gap_is_closed_with_zeros() {
-    let pairs = [1, 2, 3, 4].map(|number| pair(number, DAY));
+    let pairs = [1, 2, 3, 4].map(|number| pair(number, DAY + u64::from(number)));
     for gone in 0..4 {
-        let mut bytes = packed(&pairs);
-        assert_eq!(withdraw(&mut bytes, gone as u64 + 1), Ok(()));
+        let (mut bytes, mut instants) = (packed(&pairs), row(&pairs));
+        assert_eq!(withdraw(&mut bytes, &mut instants, gone as u64 + 1), Ok(()));
         let mut left = pairs.to_vec();
         left.remove(gone);
-        assert_eq!(bytes, packed(&left));
-        assert_eq!(withdraw(&mut bytes, gone as u64 + 1), Err(Refusal::Absent));
-        assert_eq!(bytes, packed(&left));
+        assert_eq!((&bytes, &instants), (&packed(&left), &row(&left)));
+        assert_eq!(withdraw(&mut bytes, &mut instants, gone as u64 + 1), Err(Refusal::Absent));
+        assert_eq!((bytes, instants), (packed(&left), row(&left)));
     }
-    let mut bytes = packed(&pairs);
+    let (mut bytes, mut instants) = (packed(&pairs), row(&pairs));
     for number in [0, 5, 1 << 32 | 1, u64::MAX] {
-        assert_eq!(withdraw(&mut bytes, number), Err(Refusal::Absent));
+        assert_eq!(withdraw(&mut bytes, &mut instants, number), Err(Refusal::Absent));
     }
-    assert_eq!(bytes, packed(&pairs));
+    assert_eq!((bytes, instants), (packed(&pairs), row(&pairs)));
 }
 
 #[test]
@@ -113,19 +128,20 @@ fn reading_comes_first_and_with_its_values() {
     let mut whole = packed(&[pair(5, DAY)]);
     for buffer in [&mut damaged, &mut whole] {
         let before = buffer.clone();
-        assert_eq!(lodge(buffer, LINE1, b""), Err(Refusal::Length { line: Line::Two }));
+        let instants = &mut row(&[pair(5, DAY)]);
+        assert_eq!(lodge(buffer, instants, LINE1, b""), Err(Refusal::Length { line: Line::Two }));
         let comma = [&LINE2[..11], b",", &LINE2[12..]].concat();
         let column = Refusal::Column { line: Line::Two, column: 12 };
-        assert_eq!(lodge(buffer, LINE1, &comma), Err(column));
+        assert_eq!(lodge(buffer, instants, LINE1, &comma), Err(column));
         let steep = b"2 00005 180.0001 348.7242 1859667 331.7664  19.3264 10.82419157413662";
         let range = Refusal::Range { field: Field::Inclination };
-        assert_eq!(lodge(buffer, LINE1, steep), Err(range));
-        assert_eq!(*buffer, before);
+        assert_eq!(lodge(buffer, instants, LINE1, steep), Err(range));
+        assert_eq!((&*buffer, &*instants), (&before, &row(&[pair(5, DAY)])));
     }
-    assert_eq!(lodge(&mut damaged, LINE1, LINE2), Err(Refusal::NoRoster));
+    assert_eq!(lodge(&mut damaged, &mut ZEROS.clone(), LINE1, LINE2), Err(Refusal::NoRoster));
 }
 
-/// A buffer that is no roster is refused by both calls, and stays.
+/// A buffer that is no roster is refused by every call, and stays, with its row.
 #[test]
 fn damaged_buffers() {
     let pairs = [10, 20, 30].map(|number| pair(number, DAY));
@@ -150,12 +166,97 @@ fn damaged_buffers() {
     ];
     for mut bytes in buffers {
         let before = bytes.clone();
-        assert_eq!(lodge(&mut bytes, LINE1, LINE2), Err(Refusal::NoRoster));
-        assert_eq!(withdraw(&mut bytes, 20), Err(Refusal::NoRoster));
+        let mut instants = row(&pairs);
+        assert_eq!(lodge(&mut bytes, &mut instants, LINE1, LINE2), Err(Refusal::NoRoster));
+        assert_eq!(withdraw(&mut bytes, &mut instants, 20), Err(Refusal::NoRoster));
+        assert_eq!(fill_row(&bytes, &mut instants), Err(Refusal::NoRoster));
         assert_eq!(Roster::lent(&mut bytes).unwrap_err(), Refusal::NoRoster);
-        assert_eq!(bytes, before);
+        assert_eq!((bytes, instants), (before, row(&pairs)));
     }
     assert!(Roster::lent(&mut whole.clone()).is_ok());
+}
+
+/// A row that is not the roster's is refused, and stays; filling mends every one of 64.
+#[test]
+fn damaged_rows() {
+    let pairs = [10, 20, 30].map(|number| pair(number, DAY + u64::from(number)));
+    let whole = packed(&pairs);
+    let right = row(&pairs);
+    let with = |place: usize, instant: u64| {
+        let mut row = right.clone();
+        row[place] = instant;
+        row
+    };
+    let rows = [
+        vec![],
+        right[..63].to_vec(),
+        [&right[..], &[0]].concat(),
+        right[..3].to_vec(),
+        with(0, right[0] + 1),
+        with(1, right[1] - 1),
+        with(2, 0),
+        with(2, right[1]),
+        with(3, 1),
+        with(63, u64::MAX),
+        ZEROS.to_vec(),
+        [&[0], &right[..63]].concat(),
+    ];
+    for before in rows {
+        let (mut bytes, mut row) = (whole.clone(), before.clone());
+        assert_eq!(lodge(&mut bytes, &mut row, LINE1, LINE2), Err(Refusal::NoRoster));
+        assert_eq!(withdraw(&mut bytes, &mut row, 20), Err(Refusal::NoRoster));
+        assert_eq!(Roster::lent_with_row(&mut bytes, &mut row).unwrap_err(), Refusal::NoRoster);
+        let mut out = [b'.'; 3];
+        assert_eq!(changes(&bytes, &row, &bytes, &right, &mut out), Err(Uncompared::NoRoster(Which::First)));
+        assert_eq!(changes(&bytes, &right, &bytes, &row, &mut out), Err(Uncompared::NoRoster(Which::Second)));
+        assert_eq!((&bytes, &row, out), (&whole, &before, [b'.'; 3]));
+        if row.len() == Roster::PLACES {
+            assert_eq!(fill_row(&bytes, &mut row), Ok(()));
+            assert_eq!(row, right);
+        } else {
+            assert_eq!(fill_row(&bytes, &mut row), Err(Refusal::NoRoster));
+            assert_eq!(row, before);
+        }
+    }
+    let (mut bytes, mut row) = (whole.clone(), right.clone());
+    let mut roster = Roster::lent_with_row(&mut bytes, &mut row).unwrap();
+    assert_eq!(roster.withdraw(10), Ok(()));
+    assert_eq!((bytes, row), (packed(&pairs[1..]), self::row(&pairs[1..])));
+}
+
+/// 1957 January 1, 0h is the instant 0: its place is no empty one.
+#[test]
+fn the_instant_zero() {
+    let zero = |number| Record { year: 1957, day: 1_0000_0000, ..record(number, DAY) }.write().unwrap();
+    let mut roster = Roster::new();
+    for pair in [zero(20), pair(10, DAY), zero(30), zero(5)] {
+        assert_eq!(lodged(&mut roster, pair), Ok(()));
+    }
+    assert_eq!(roster.len(), 4);
+    assert_eq!(roster.row()[..5], [0, row(&[pair(10, DAY)])[0], 0, 0, 0]);
+    assert_eq!(roster.oldest().unwrap().record().number, 5);
+    assert!(roster.by_age().iter().map(|pair| pair.record().number).eq([5, 20, 30, 10]));
+    assert_eq!(lodged(&mut roster, zero(10)), Err(Refusal::Older));
+    assert_eq!(lodged(&mut roster, zero(20)), Ok(()));
+    for number in [5, 30, 20] {
+        assert_eq!(roster.withdraw(number), Ok(()));
+    }
+    assert_eq!(roster.oldest().unwrap().record().number, 10);
+    assert_eq!(roster.withdraw(10), Ok(()));
+    assert_eq!((roster.len(), roster.oldest()), (0, None));
+    assert_eq!(roster.row(), ZEROS);
+}
+
+/// The row alone tells the order by age.
+#[test]
+fn by_age() {
+    let mut roster = Roster::new();
+    for (number, days) in [(1, 5), (2, 3), (3, 9), (4, 3), (5, 1)] {
+        assert_eq!(lodged(&mut roster, pair(number, DAY + days * 1_0000_0000)), Ok(()));
+    }
+    assert!(roster.by_age().iter().map(|pair| pair.record().number).eq([5, 2, 4, 1, 3]));
+    assert_eq!(roster.oldest().unwrap().record().number, 5);
+    assert!(roster.instants().map(|instant| instant.0).eq(roster.row()[..5].iter().copied()));
 }
 
 #[test]
@@ -179,6 +280,7 @@ fn what_changed() {
     ];
     let new = [later, pair(8, DAY), pair(9, DAY)];
     let (first, second) = (packed(&old), packed(&new));
+    let (row1, row2) = (row(&old), row(&new));
     let expected = format!(
         "5 epoch 86400000000\n5 bstar 28098 -4 -28100 -4\n5 set 1\n5 node -40\n5 revolution 11\nfirst {}\nsecond {}\n",
         String::from_utf8(old[1].concat()).unwrap(),
@@ -187,12 +289,12 @@ fn what_changed() {
     let size = expected.len();
     for room in [size + 9, size, Roster::CHANGES_ROOM] {
         let mut out = vec![b'.'; room];
-        assert_eq!(changes(&first, &second, &mut out).unwrap(), expected.as_bytes());
+        assert_eq!(changes(&first, &row1, &second, &row2, &mut out).unwrap(), expected.as_bytes());
         assert!(out[size..].iter().all(|&byte| byte == b'.'));
     }
     for room in [size - 1, 1, 0] {
         let mut out = vec![b'.'; room];
-        assert_eq!(changes(&first, &second, &mut out), Err(Uncompared::Room));
+        assert_eq!(changes(&first, &row1, &second, &row2, &mut out), Err(Uncompared::Room));
         assert_eq!(out, vec![b'.'; room]);
     }
     let (mut first, mut second) = (first, second);
@@ -206,11 +308,12 @@ fn what_changed() {
 fn which_is_no_roster() {
     let whole = packed(&[pair(5, DAY)]);
     let bad = &whole[1..];
+    let row = row(&[pair(5, DAY)]);
     let mut out = [b'.'; 3];
-    assert_eq!(changes(bad, &whole, &mut out), Err(Uncompared::NoRoster(Which::First)));
-    assert_eq!(changes(&whole, bad, &mut out), Err(Uncompared::NoRoster(Which::Second)));
-    assert_eq!(changes(bad, bad, &mut out), Err(Uncompared::NoRoster(Which::First)));
-    assert_eq!(changes(&whole, &whole, &mut []).unwrap(), b"");
+    assert_eq!(changes(bad, &row, &whole, &row, &mut out), Err(Uncompared::NoRoster(Which::First)));
+    assert_eq!(changes(&whole, &row, bad, &row, &mut out), Err(Uncompared::NoRoster(Which::Second)));
+    assert_eq!(changes(bad, &row, bad, &row, &mut out), Err(Uncompared::NoRoster(Which::First)));
+    assert_eq!(changes(&whole, &row, &whole, &row, &mut []).unwrap(), b"");
     assert_eq!(out, [b'.'; 3]);
     assert_eq!([Uncompared::Room, Uncompared::NoRoster(Which::Second)].map(Uncompared::number), [17, 22]);
 }

@@ -162,6 +162,8 @@ fn main() {
     let text = full_text();
     let mut timed = libraries.each_ref().map(|library| library.reporter(&text));
     show("a pair of a report of 4,096", &race(&mut timed, rounds, 1, PAIRS));
+    let mut timed = libraries.each_ref().map(|library| library.ager(&roster));
+    show("64 pairs by age (port: read, no row)", &race(&mut timed, rounds, RUNS / 20, 1));
     let changed = changed_roster();
     let mut timed = libraries.each_ref().map(|library| library.comparer(&roster, &changed));
     show("comparing two full rosters", &race(&mut timed, rounds, RUNS / 20, 1));
