@@ -1,18 +1,18 @@
 // A request's line answered: a `row` line for each row, or `refused` and the number for a list refused
 // whole, and a `strides` line; `malformed` for a line that is no request.
 ghost use Prim.Native.Nat.{_≤_};
+use lent_requests::request_held;
+use lent_requests::request_list_held;
 use printing::print_answer;
 use printing::print_list;
 use printing::refuse_list;
 use request_line::Request;
 use request_line::read_request;
-use saddlekerf::saddlekerf_request;
-use saddlekerf::saddlekerf_request_list;
 use streams::print;
 
 fn answer_one(failed: &mut bool, numbers: &mut [f64; 83], marks: &mut [u32; 4], time: i64) {
     let mut state = [0f64; 6];
-    let answer = saddlekerf_request(numbers, marks, time, &mut state);
+    let answer = request_held(numbers, marks, time, &mut state);
     print_answer(failed, answer, state);
 }
 
@@ -20,7 +20,7 @@ fn answer_list(failed: &mut bool, numbers: &mut [f64; 83], marks: &mut [u32; 4],
     let mut refusals = [0u8; 1024];
     let mut states = [0f64; 6144];
     let mut rounds = [0u8; 1024];
-    let answer = saddlekerf_request_list(
+    let answer = request_list_held(
         numbers,
         marks,
         times,

@@ -4,11 +4,11 @@
 mod answer;
 
 use answer::answer;
+use lent_opening::open_held;
 use line_input::Input;
 use line_input::next_line;
 use line_input::whole_in;
 use printing::print_refused;
-use saddlekerf::saddlekerf_open;
 use streams::print;
 use text::put_bytes;
 
@@ -28,7 +28,7 @@ fn open(
     numbers: &mut [f64; 83],
     marks: &mut [u32; 4],
 ) -> Stage {
-    let answer = saddlekerf_open(line1, line2, numbers, marks);
+    let answer = open_held(line1, line2, numbers, marks);
     if answer == 0 {
         print(failed, b"opened\n");
         return Stage::Asking;
