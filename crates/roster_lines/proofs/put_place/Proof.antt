@@ -2,8 +2,8 @@ use Prim.Native.Nat.{_≤_, _-_}
 use mathlib.Core.Path.{_≡_}
 use lib.ListN.{length}
 use borrow.Author.Needs.{needs}
-use Rattle.test_roster.proofs.put_place.Statement.{statement}
-use Rattle.test_roster.proofs.put_place.Tie as tie
+use Rattle.roster_lines.proofs.put_place.Statement.{statement}
+use Rattle.roster_lines.proofs.put_place.Tie as tie
 
 abbrev Inv-loop : tie.InvT-loop
 Inv-loop out₀ p n₀ i₀ out n i = (i ≤ length p) × (length out ≡ length out₀)
