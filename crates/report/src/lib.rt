@@ -299,7 +299,8 @@ fn with_lines(count: Count, first: Line, second: Line) -> Count
 fn closed(count: Count, odd: bool) -> Report
     ensures { λ x. ⌜ x ≡ S.closed count odd ⌝ }
 {
-    if count.pairs > 4096 {
+    let many = count.pairs > 4096;
+    if many {
         return Report::TooMany;
     }
     if odd {
