@@ -6,3 +6,4 @@ pub mod Times
 pub mod LineEnds
 pub mod Claims
 pub mod Front
+mod Judged

@@ -17,9 +17,16 @@ use Rattle.report.specs.declared.Tally.{Tally}
 use Rattle.report.specs.declared.Count.{Count}
 use Rattle.report.specs.declared.State.{State}
 use Rattle.report.specs.declared.Kind.{Kind}
+use Rattle.report.specs.declared.Kind.the-variants.{Near, Deep, Unopened}
 use Rattle.report.specs.declared.Report.{Report}
 use Rattle.report.specs.declared.Report.the-variants.{Counted, TooMany, Odd}
 use Rattle.report.specs.Report.{Pair, kindOf, isNear, isDeep, isUnopened, stampOf, earlier, later, noStamp, mostPairs}
+
+-- ── the heading ──
+
+-- of a record opened into memory: what that answered, and the kind that it left there, 0 near Earth (crate storage)
+unfoldable pub markedKind : ℕ → ℕ → Kind
+markedKind answer mark = cond (ltb 0 answer) Unopened (cond (ltb 0 mark) Deep Near)
 
 -- ── the tally, one pair after the other ──
 

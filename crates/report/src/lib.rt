@@ -10,10 +10,8 @@ ghost use Rattle.text.specs.Input.{lineOf};
 ghost use Rattle.report.specs.Report as R;
 ghost use Rattle.report.specs.State as S;
 use instant::Epoch;
+use lent_opening::open_record;
 use listing::kept_size;
-use opening::opening::Opening;
-use opening::opening::open;
-use satellite::Method;
 use text::Line;
 use text::Lines;
 use tle::Reading;
@@ -118,33 +116,27 @@ fn with_refusal(t: Tally, k: u64) -> Tally
     }
 }
 
-fn kind_by(method: Method) -> Kind
-    ensures { λ x. ⌜ x ≡ R.kindBy method ⌝ }
+// Of what opening a record into memory answered, and of the kind that it left there.
+fn marked_kind(answer: u64, mark: u32) -> Kind
+    ensures { λ x. ⌜ x ≡ S.markedKind answer mark ⌝ }
 {
-    match method {
-        Method::NearEarth => Kind::Near,
-        Method::DeepSpace(_) => Kind::Deep,
+    if answer > 0 {
+        return Kind::Unopened;
     }
+    if mark > 0 {
+        return Kind::Deep;
+    }
+    Kind::Near
 }
 
-fn opened_kind(o: Opening) -> Kind
-    ensures { λ x. ⌜ x ≡ R.openedKind o ⌝ }
-{
-    match o {
-        Opening::Opened(s) => {
-            let model = s.model;
-            let method = model.method;
-            kind_by(method)
-        }
-        Opening::Refused(_) => Kind::Unopened,
-    }
-}
-
-// All that the report asks of the opener.
+// All that the report asks of the opener. The last of a satellite's four marks is its kind (crate storage).
 fn kind_of(r: Record) -> Kind
     ensures { λ x. ⌜ x ≡ R.kindOf r ⌝ }
 {
-    opened_kind(open(r))
+    let mut numbers = [0.0; 83];
+    let mut marks = [0; 4];
+    let answer = open_record(r, &mut numbers, &mut marks);
+    marked_kind(answer, marks[3])
 }
 
 fn instant_of(e: Epoch) -> u64
