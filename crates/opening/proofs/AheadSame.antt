@@ -10,9 +10,12 @@ use Rattle.satellite.specs.declared.Model.{Model}
 use Rattle.near_earth.specs.declared.parts.Initl.{Initl}
 use Rattle.near_earth.specs.Initl.{guard, deepSpace}
 use Rattle.near_earth.specs.Sgp4init.{recovered, filled, zeroed, nearEarth}
-use Rattle.lunar_solar.specs.Dscom.{dscomOf}
+use Rattle.lunar_solar.specs.Dscom.{shapeOf, dscomFrom, dscomOf}
+use Rattle.lunar_solar.specs.Dsinit.{secularOf}
+use Rattle.satellite.specs.declared.Integrator.{Integrator}
+use Rattle.resonance_terms.proofs.AheadSame.{same}
 use Rattle.opening.specs.declared.ahead.Ahead.{Ahead}
-use Rattle.opening.specs.DeepSpace.{common, deepSpaceOf}
+use Rattle.opening.specs.DeepSpace.{tc, common, setUp, orbit, atEpoch, deepSpaceOf}
 use Rattle.opening.specs.Ahead.{aheadOf, deepSpaceFrom}
 use Rattle.opening.specs.Opening.{modelOf}
 
@@ -26,19 +29,26 @@ elements-of : (el : Elements) (i : Initl) (deep : Bool) → nearEarth el i deep 
 unfolding nearEarth
 elements-of el i deep = elements-by (guard i) el i deep
 
-own : (epoch gsto : Float) (n : NearEarth) (eccsq : Float) → deepSpaceFrom (aheadOf epoch (n .elements)) epoch gsto n eccsq ≡ deepSpaceOf epoch gsto n eccsq
-unfolding deepSpaceFrom deepSpaceOf aheadOf common dscomOf
-own epoch gsto n eccsq = refl
+-- dsinit's mean motion and eccentricity are the elements'
+own : (epoch gsto : Float) (n : NearEarth) (eccsq : Float) → deepSpaceFrom (aheadOf epoch (n .elements) (n .elements .no)) epoch gsto n eccsq ≡ deepSpaceOf epoch gsto n eccsq
+unfolding deepSpaceFrom deepSpaceOf aheadOf common dscomOf dscomFrom shapeOf orbit
+own epoch gsto n eccsq =
+    let c = common epoch n in
+    let x = setUp c n in
+    let s = secularOf c (n .elements .inclo) in
+    ap
+    (λ (i : Integrator). record { rates = s; periodics = c .periodics; integrator = i })
+    (same (orbit c (x .ep) eccsq) (atEpoch n x gsto) s tc)
 
 deep-ahead : (el : Elements) (i : Initl) (deep : Bool) (epoch gsto eccsq : Float)
-    → deepSpaceFrom (aheadOf epoch el) epoch gsto (nearEarth el i deep) eccsq ≡ deepSpaceOf epoch gsto (nearEarth el i deep) eccsq
+    → deepSpaceFrom (aheadOf epoch el (i .no)) epoch gsto (nearEarth el i deep) eccsq ≡ deepSpaceOf epoch gsto (nearEarth el i deep) eccsq
 unfolding aheadOf recovered
 deep-ahead el i deep epoch gsto eccsq =
     let n = nearEarth el i deep in
-    ap (λ (e : Elements). deepSpaceFrom (aheadOf epoch e) epoch gsto n eccsq) (sym (elements-of el i deep)) ∙ own epoch gsto n eccsq
+    ap (λ (e : Elements). deepSpaceFrom (aheadOf epoch e (e .no)) epoch gsto n eccsq) (sym (elements-of el i deep)) ∙ own epoch gsto n eccsq
 
 pub deep-model : (el : Elements) (i : Initl) (days gsto : Float) (b : Bool) (a : Ahead) (n : NearEarth) (d : DeepSpace)
-    → b ≡ deepSpace i → b ≡ true → a ≡ aheadOf days el → n ≡ nearEarth el i true → d ≡ deepSpaceFrom a days gsto n (i .eccsq)
+    → b ≡ deepSpace i → b ≡ true → a ≡ aheadOf days el (i .no) → n ≡ nearEarth el i true → d ≡ deepSpaceFrom a days gsto n (i .eccsq)
     → _≡_ {A = Model} (record { near = n; method = method.DeepSpace d }) (modelOf el i days gsto)
 unfolding modelOf
 deep-model el i days gsto b a n d hb ht ha hn hd =

@@ -56,6 +56,7 @@ pub fn deep_space(a: Ahead, epoch: Days, gsto: Radians, n: NearEarth, eccsq: f64
     let rates = secular_rates(c, Radians(n.elements.inclo));
     let integrator = dsinit(
         orbit(c, n.elements.ecco, eccsq),
+        a.aonv,
         at_epoch(n, gsto),
         rates,
         tc,

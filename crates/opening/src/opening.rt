@@ -79,7 +79,7 @@ fn model_of(el: Elements, i: Initl, days: Days, gsto: Radians) -> Model
     ensures { λ r. ⌜ r ≡ O.modelOf el i (days .0) (gsto .0) ⌝ }
 {
     if is_deep_space(i) {
-        let a = ahead_of(days, el);
+        let a = ahead_of(days, el, i.no);
         let near = near_earth(el, i, true);
         let d = deep_space(a, days, gsto, near, i.eccsq);
         return Model {

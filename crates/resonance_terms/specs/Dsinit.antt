@@ -193,15 +193,11 @@ halfDayOf o aonv =
     let g201 = neg (dec 306 3) ⊖ (em ⊖ dec 64 2) ⊗ dec 440 3 in
     halfDaySum (inclinedOf o) (lowOf em emsq eoc) (highOf em emsq eoc) g201 (o .nm) aonv
 
--- 2368, of the mean motion alone
-unfoldable pub aonvOf : Float → Float
-aonvOf nm = pow23 (nm ⊘ xke)
-
--- 2307-2311, 2366, 2371, 2465: the later test wins, though no mean motion meets both
-unfoldable pub kindOf : Orbit → Resonance
-kindOf o =
-    cond (halfDay (o .nm) (o .em)) (kinds.HalfDay (halfDayOf o (aonvOf (o .nm))))
-    (cond (oneDay (o .nm)) (kinds.OneDay (oneDayOf o (aonvOf (o .nm)))) kinds.None)
+-- 2307-2311, 2366, 2371, 2465, of aonv: the later test wins, though no mean motion meets both
+unfoldable pub kindOf : Orbit → Float → Resonance
+kindOf o aonv =
+    cond (halfDay (o .nm) (o .em)) (kinds.HalfDay (halfDayOf o aonv))
+    (cond (oneDay (o .nm)) (kinds.OneDay (oneDayOf o aonv)) kinds.None)
 
 -- 2350
 unfoldable pub thetaOf : Float → Float → Float
@@ -229,10 +225,14 @@ startOf kinds.None e s theta = record { xlamo = dec 0 0; xfact = dec 0 0 }
 startOf (kinds.OneDay d) e s theta = oneDayStart e s theta
 startOf (kinds.HalfDay d) e s theta = halfDayStart e s theta
 
--- what the integration rests on from then
-unfoldable pub dsinitOf : Orbit → Epoch → SecularRates → Float → Integrator
-dsinitOf o e s tc =
-    let kind = kindOf o in
+-- 2368, of the mean motion alone
+unfoldable pub aonvOf : Float → Float
+aonvOf nm = pow23 (nm ⊘ xke)
+
+-- what the integration rests on from then, of aonv
+unfoldable pub dsinitFrom : Orbit → Float → Epoch → SecularRates → Float → Integrator
+dsinitFrom o aonv e s tc =
+    let kind = kindOf o aonv in
     let start = startOf kind e s (thetaOf (e .gsto) tc) in
     record {
       resonance = kind;
@@ -243,3 +243,6 @@ dsinitOf o e s tc =
       argpdot = e .argpdot;
       gsto = e .gsto;
     }
+
+unfoldable pub dsinitOf : Orbit → Epoch → SecularRates → Float → Integrator
+dsinitOf o e s tc = dsinitFrom o (aonvOf (o .nm)) e s tc

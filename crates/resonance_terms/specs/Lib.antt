@@ -1,2 +1,3 @@
 pub mod Dsinit
+pub mod Ahead
 pub mod Finite

@@ -1,6 +1,7 @@
 // The resonance part of 002's dsinit: the kind, its coefficients, and what the integration starts with.
 ghost use mathlib.Core.Path.{_≡_};
 ghost use Rattle.resonance_terms.specs.Dsinit as D;
+ghost use Rattle.resonance_terms.specs.Ahead as W;
 use instant::Minutes;
 use instant::Radians;
 use satellite::HalfDay;
@@ -247,16 +248,27 @@ fn aonv_of(nm: f64) -> f64
     elementary::two_thirds(nm / wgs72::xke())
 }
 
-fn kind_of(o: Orbit) -> Resonance
-    ensures { λ r. ⌜ r ≡ D.kindOf o ⌝ }
+// The longest step of dsinit, of the mean motion and the eccentricity: begun ahead, and only where there
+// is resonance, as 002 has it. 0.0 is for what does not ask for it.
+pub fn aonv_ahead(nm: f64, em: f64) -> f64
+    ensures { λ r. ⌜ r ≡ W.aonvAhead nm em ⌝ }
+{
+    if is_half_day(nm, em) | is_one_day(nm) {
+        return aonv_of(nm);
+    }
+    0.0
+}
+
+fn kind_of(o: Orbit, aonv: f64) -> Resonance
+    ensures { λ r. ⌜ r ≡ D.kindOf o aonv ⌝ }
 {
     let nm = o.nm;
     let em = o.em;
     if is_half_day(nm, em) {
-        return Resonance::HalfDay(half_day_of(o, aonv_of(nm)));
+        return Resonance::HalfDay(half_day_of(o, aonv));
     }
     if is_one_day(nm) {
-        return Resonance::OneDay(one_day_of(o, aonv_of(nm)));
+        return Resonance::OneDay(one_day_of(o, aonv));
     }
     Resonance::None
 }
@@ -299,11 +311,11 @@ fn start_of(kind: Resonance, e: Epoch, s: SecularRates, theta: f64) -> Start
     }
 }
 
-// `tc` is 0 at set-up.
-pub fn dsinit(o: Orbit, e: Epoch, s: SecularRates, tc: Minutes) -> Integrator
-    ensures { λ r. ⌜ r ≡ D.dsinitOf o e s (tc .0) ⌝ }
+// `aonv` is aonv_ahead of the orbit; `tc` is 0 at set-up.
+pub fn dsinit(o: Orbit, aonv: f64, e: Epoch, s: SecularRates, tc: Minutes) -> Integrator
+    ensures { λ r. ⌜ r ≡ D.dsinitFrom o aonv e s (tc .0) ⌝ }
 {
-    let resonance = kind_of(o);
+    let resonance = kind_of(o, aonv);
     let theta = theta_of(Radians(e.gsto), tc);
     let start = start_of(resonance, e, s, theta.0);
     Integrator {

@@ -32,7 +32,7 @@ use Rattle.lunar_solar.specs.Dscom.{anglesOf, shapeOf, dayOf, gamOf, sunOf, lun
 use Rattle.lunar_solar.specs.Dsinit.{ratesOf, guardedOf, joinedBy, joinedOf, secularOf}
 use Rattle.periodics.specs.Dpper.{dpperOf}
 use Rattle.lunar_solar.specs.Finite as bodyFinite
-use Rattle.resonance_terms.specs.Dsinit.{oneDay, halfDay, oneDayOf, g520Of, lowOf, highOf, inclinedOf, halfDaySum, halfDayOf, kindOf, thetaOf, halfDayStart, oneDayStart, startOf, aonvOf, dsinitOf}
+use Rattle.resonance_terms.specs.Dsinit.{oneDay, halfDay, oneDayOf, g520Of, lowOf, highOf, inclinedOf, halfDaySum, halfDayOf, kindOf, thetaOf, halfDayStart, oneDayStart, startOf, aonvOf, dsinitFrom, dsinitOf}
 use Rattle.resonance_terms.specs.Finite.{finiteOneDay, finiteHalfDay, finiteKind, finiteIntegrator}
 use Rattle.resonance.specs.Time.{resonant}
 use Rattle.opening.specs.declared.opening.Satellite.{Satellite}
@@ -68,7 +68,7 @@ unfolding kindIn irez integratorOf integratorBy
     dscomOf dscomFrom anglesOf shapeOf dayOf gamOf sunOf lunarOf moonOf passOf axesOf zOf sOf bothOf periodicsOf zmolOf zmosOf
     secularOf ratesOf guardedOf joinedOf joinedBy dpperOf
     bodyFinite.finiteRates bodyFinite.finiteLunarSolar bodyFinite.finitePeriodics
-    dsinitOf aonvOf kindOf oneDay halfDay oneDayOf halfDayOf inclinedOf lowOf g520Of highOf halfDaySum thetaOf startOf oneDayStart halfDayStart
+    dsinitOf dsinitFrom aonvOf kindOf oneDay halfDay oneDayOf halfDayOf inclinedOf lowOf g520Of highOf halfDaySum thetaOf startOf oneDayStart halfDayStart
     finiteIntegrator finiteKind finiteOneDay finiteHalfDay
     sinOf cosOf sinPoly cosPoly turned wrapped folded signed sqrtOf rootOf unitsIn nearRoot isqrt cbrtOf cbrtNormal normal nearCube icbrt pow23 pow35 absOf atan2Of placed quarter arctan series halved
     finite round neg add sub mul div rem lt le eq ne ofBits toBits
