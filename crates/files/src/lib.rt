@@ -1,5 +1,8 @@
 // Files that a program's arguments name, read into lent space. A failure is told once, in words, on standard
-// error, and marks the flag that the program lends; from then on nothing is read (crate streams).
+// error, and marks the flag that the program lends; from then on nothing is read, and the space stays (crate
+// streams).
+ghost use mathlib.Core.Path.{_≡_};
+ghost use mathlib.Core.Bool.{true};
 ghost use Rattle.io.specs.Counts.{Counts};
 use text::put_bytes;
 
@@ -24,6 +27,7 @@ fn fail(what: &[u8], name: &[u8]) {
 // Reads the file of this name to its end, or until the space is full.
 pub fn read_file(failed: &mut bool, name: &[u8], space: &mut [u8]) -> usize
     ensures { λ r. ⌜ Counts r (now (space .exit)) ⌝ }
+    ensures { λ r. ⌜ (now (failed .entry) ≡ true → (now (failed .exit) ≡ true) × (r ≡ 0) × (now (space .exit) ≡ now (space .entry))) ⌝ }
 {
     if *failed {
         return 0;
@@ -44,6 +48,7 @@ pub fn read_file(failed: &mut bool, name: &[u8], space: &mut [u8]) -> usize
 // Reads the file that argument i names.
 pub fn read_argument(failed: &mut bool, i: usize, space: &mut [u8]) -> usize
     ensures { λ r. ⌜ Counts r (now (space .exit)) ⌝ }
+    ensures { λ r. ⌜ (now (failed .entry) ≡ true → (now (failed .exit) ≡ true) × (r ≡ 0) × (now (space .exit) ≡ now (space .entry))) ⌝ }
 {
     let mut name = io::buffer();
     let size = os::arg(i, &mut name);
