@@ -4,6 +4,7 @@
 ghost use mathlib.Core.Path.{_≡_};
 ghost use mathlib.Core.Bool.{true};
 ghost use Rattle.published_lines.specs.Asked.{askedBy, tallied, refusedRow};
+ghost use Rattle.published_lines.specs.Stages as S;
 use comparison::Tally;
 use comparison::difference;
 use printing::print_compared;
@@ -59,6 +60,7 @@ pub fn judge(
     answer: u64,
     state: [f64; 6],
 ) -> Tally
+    ensures { λ r. ⌜ r ≡ S.judged asked tally published answer state ⌝ }
     ensures { λ _. ⌜ (now (failed .entry) ≡ true → now (failed .exit) ≡ true) ⌝ }
 {
     let refusal = answer % 256;
@@ -118,6 +120,7 @@ pub enum Stage {
 
 // A pair opened, or told why it is not, by the number that opening answers.
 pub fn opened(failed: &mut bool, line1: &[u8], line2: &[u8], answer: u64) -> Stage
+    ensures { λ r. ⌜ r ≡ S.openedTo answer ⌝ }
     ensures { λ _. ⌜ (now (failed .entry) ≡ true → now (failed .exit) ≡ true) ⌝ }
 {
     if answer == 0 {
@@ -138,7 +141,9 @@ pub fn end_satellite(failed: &mut bool, stage: Stage)
     }
 }
 
-fn begins(line: &[u8], byte: u8) -> bool {
+fn begins(line: &[u8], byte: u8) -> bool
+    ensures { λ r. ⌜ r ≡ S.beginsWith byte (now (line .entry)) ⌝ }
+{
     if line.len() == 0 {
         return false;
     }
@@ -147,6 +152,8 @@ fn begins(line: &[u8], byte: u8) -> bool {
 
 // A line that ends what belongs to the satellite before it: a comment, or the first of a pair.
 fn first_line(failed: &mut bool, first: &mut [u8; 70], stage: Stage, line: &[u8]) -> Stage
+    ensures { λ r. ⌜ r ≡ S.begun (now (line .entry)) ⌝ }
+    ensures { λ _. ⌜ now (first .exit) ≡ S.firstKept (now (first .entry)) (now (line .entry)) ⌝ }
     ensures { λ _. ⌜ (now (failed .entry) ≡ true → now (failed .exit) ≡ true) ⌝ }
 {
     end_satellite(failed, stage);
@@ -168,6 +175,8 @@ pub enum Taken {
 }
 
 pub fn take_line(failed: &mut bool, first: &mut [u8; 70], stage: Stage, line: &[u8]) -> Taken
+    ensures { λ r. ⌜ r ≡ S.takenBy stage (now (line .entry)) ⌝ }
+    ensures { λ _. ⌜ now (first .exit) ≡ S.firstOver (now (first .entry)) (now (line .entry)) ⌝ }
     ensures { λ _. ⌜ (now (failed .entry) ≡ true → now (failed .exit) ≡ true) ⌝ }
 {
     if begins(line, b'1') | begins(line, b'#') {
