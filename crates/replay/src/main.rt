@@ -3,5 +3,6 @@
 // list refused whole, and a `strides` line. A line that is no request prints `malformed`. The first
 // line printed is `opened`; or it is `refused` and the number, and nothing follows.
 fn main() {
-    session::answer_input(false);
+    let mut failed = false;
+    session::answer_input(&mut failed, false);
 }

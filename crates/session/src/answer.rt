@@ -1,5 +1,7 @@
 // A request's line answered: a `row` line for each row, or `refused` and the number for a list refused
 // whole, and a `strides` line; `malformed` for a line that is no request.
+ghost use mathlib.Core.Path.{_≡_};
+ghost use mathlib.Core.Bool.{true};
 ghost use Prim.Native.Nat.{_≤_};
 use lent_requests::request_held;
 use lent_requests::request_list_held;
@@ -10,13 +12,17 @@ use request_line::Request;
 use request_line::read_request;
 use streams::print;
 
-fn answer_one(failed: &mut bool, numbers: &mut [f64; 83], marks: &mut [u32; 4], time: i64) {
+fn answer_one(failed: &mut bool, numbers: &mut [f64; 83], marks: &mut [u32; 4], time: i64)
+    ensures { λ _. ⌜ (now (failed .entry) ≡ true → now (failed .exit) ≡ true) ⌝ }
+{
     let mut state = [0f64; 6];
     let answer = request_held(numbers, marks, time, &mut state);
     print_answer(failed, answer, state);
 }
 
-fn answer_list(failed: &mut bool, numbers: &mut [f64; 83], marks: &mut [u32; 4], times: &[i64]) {
+fn answer_list(failed: &mut bool, numbers: &mut [f64; 83], marks: &mut [u32; 4], times: &[i64])
+    ensures { λ _. ⌜ (now (failed .entry) ≡ true → now (failed .exit) ≡ true) ⌝ }
+{
     let mut refusals = [0u8; 1024];
     let mut states = [0f64; 6144];
     let mut rounds = [0u8; 1024];
@@ -41,12 +47,9 @@ fn listed(n: usize) -> usize
     1100
 }
 
-pub(crate) fn answer(
-    failed: &mut bool,
-    numbers: &mut [f64; 83],
-    marks: &mut [u32; 4],
-    line: &[u8],
-) {
+pub(crate) fn answer(failed: &mut bool, numbers: &mut [f64; 83], marks: &mut [u32; 4], line: &[u8])
+    ensures { λ _. ⌜ (now (failed .entry) ≡ true → now (failed .exit) ≡ true) ⌝ }
+{
     let mut times = [0i64; 1100];
     match read_request(line, &mut times) {
         Request::One => answer_one(failed, numbers, marks, times[0]),

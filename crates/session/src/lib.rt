@@ -3,6 +3,8 @@
 // satellite. After a refused pair requests print nothing.
 mod answer;
 
+ghost use mathlib.Core.Path.{_≡_};
+ghost use mathlib.Core.Bool.{true};
 use answer::answer;
 use lent_opening::open_held;
 use line_input::Input;
@@ -27,7 +29,9 @@ fn open(
     line2: &[u8],
     numbers: &mut [f64; 83],
     marks: &mut [u32; 4],
-) -> Stage {
+) -> Stage
+    ensures { λ _. ⌜ (now (failed .entry) ≡ true → now (failed .exit) ≡ true) ⌝ }
+{
     let answer = open_held(line1, line2, numbers, marks);
     if answer == 0 {
         print(failed, b"opened\n");
@@ -45,7 +49,9 @@ fn open_kept(
     line: &[u8],
     numbers: &mut [f64; 83],
     marks: &mut [u32; 4],
-) -> Stage {
+) -> Stage
+    ensures { λ _. ⌜ (now (failed .entry) ≡ true → now (failed .exit) ≡ true) ⌝ }
+{
     let n = whole_in(size, first);
     open(failed, &first[..n], line, numbers, marks)
 }
@@ -73,7 +79,9 @@ fn take_line(
     size: usize,
     numbers: &mut [f64; 83],
     marks: &mut [u32; 4],
-) -> Stage {
+) -> Stage
+    ensures { λ _. ⌜ (now (failed .entry) ≡ true → now (failed .exit) ≡ true) ⌝ }
+{
     let n = whole_in(size, room);
     let line = &room[..n];
     let stage = stage_of(many, stage, line);
@@ -108,7 +116,9 @@ fn run(
     first: &mut [u8; 70],
     buffer: &mut [u8; 4096],
     line: &mut [u8; 65536],
-) {
+)
+    ensures { λ _. ⌜ (now (failed .entry) ≡ true → now (failed .exit) ≡ true) ⌝ }
+{
     let mut input = Input::start();
     let mut stage = Stage::First;
     let mut turns = u64::MAX;
@@ -125,16 +135,17 @@ fn run(
 
 // One pair and then nothing but requests, or many pairs, each with the requests after it. The satellite
 // lies in `numbers` and `marks`, as a caller in C keeps it. The line's room holds 1,100 times of up to 20
-// bytes and more.
-pub fn answer_input(many: bool) {
-    let mut failed = false;
+// bytes and more. As in streams, a failure stays marked.
+pub fn answer_input(failed: &mut bool, many: bool)
+    ensures { λ _. ⌜ (now (failed .entry) ≡ true → now (failed .exit) ≡ true) ⌝ }
+{
     let mut numbers = [0f64; 83];
     let mut marks = [0u32; 4];
     let mut first = [0u8; 70];
     let mut buffer = io::buffer();
     let mut line = io::large_buffer();
     run(
-        &mut failed,
+        failed,
         many,
         &mut numbers,
         &mut marks,

@@ -2,5 +2,6 @@
 // pair `opened`, or `refused` and the number, and for each request its row and the strides. The pairs
 // and times are the published ones: tests/published_rows.py makes the input and the expected output.
 fn main() {
-    session::answer_input(true);
+    let mut failed = false;
+    session::answer_input(&mut failed, true);
 }
