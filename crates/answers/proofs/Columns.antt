@@ -16,7 +16,7 @@ use Rattle.tle.specs.declared.Record.{Record}
 use Rattle.tle.specs.declared.Line.{Line}
 use Rattle.tle.specs.declared.Line.the-variants.{One, Two}
 use Rattle.tle.specs.declared.Refusal.{Refusal}
-use Rattle.tle.specs.declared.Refusal.the-variants.{Length, Start, Column, Checksum, Numbers, Range}
+use Rattle.tle.specs.declared.Refusal.the-variants.{Length, Start, Column, Checksum, Numbers, Range, NoForm}
 use Rattle.tle.specs.declared.Verdict.{Verdict}
 use Rattle.tle.specs.declared.Verdict.the-variants as verdict
 use Rattle.tle.specs.declared.Reading.{Reading}
@@ -105,6 +105,7 @@ fits-bits (Column line column) h = let e : column % 65536 ≡ column = omega ari
 fits-bits (Checksum line) h = refl
 fits-bits Numbers h = refl
 fits-bits (Range field) h = refl
+fits-bits NoForm h = refl
 
 pub read-in-bits : (line1 line2 : List ℕ) (why : Refusal) → readOf line1 line2 ≡ reading.Refused why → inBits why ≡ why
 read-in-bits line1 line2 why e = fits-bits why (columns-fit line1 line2 why e)

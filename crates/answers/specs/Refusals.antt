@@ -3,7 +3,7 @@ use Prim.Native.Nat.{ℕ, _%_, _≤_}
 use Rattle.tle.specs.declared.Field.{Field}
 use Rattle.tle.specs.declared.Field.the-variants.{Day, Inclination, Node, Perigee, Anomaly, Motion}
 use Rattle.tle.specs.declared.Refusal.{Refusal}
-use Rattle.tle.specs.declared.Refusal.the-variants.{Length, Start, Column, Checksum, Numbers, Range}
+use Rattle.tle.specs.declared.Refusal.the-variants.{Length, Start, Column, Checksum, Numbers, Range, NoForm}
 use Rattle.tle.specs.Refusals.{lineNumber}
 use Rattle.answers.specs.Answer.{answer}
 
@@ -24,6 +24,7 @@ refusalAnswer (Column line column) = answer 3 (lineNumber line) column 0
 refusalAnswer (Checksum line) = answer 4 (lineNumber line) 0 0
 refusalAnswer Numbers = answer 5 0 0 0
 refusalAnswer (Range field) = answer 6 0 (fieldNumber field) 0
+refusalAnswer NoForm = answer 16 0 0 0
 
 -- a column of a line; `columns-fit` of proofs/Columns has it of every refusal that reading gives
 abbrev pub ColumnFits : Refusal → Type 0
@@ -33,6 +34,7 @@ ColumnFits (Column line column) = column ≤ 69
 ColumnFits (Checksum line) = Unit {0}
 ColumnFits Numbers = Unit {0}
 ColumnFits (Range field) = Unit {0}
+ColumnFits NoForm = Unit {0}
 
 -- a refusal whose column is cut to the bits that an answer has for it; of one that fits it is the refusal itself, `fits-bits` of proofs/Columns
 unfoldable pub inBits : Refusal → Refusal
@@ -42,3 +44,4 @@ inBits (Column line column) = Column line (column % 65536)
 inBits (Checksum line) = Checksum line
 inBits Numbers = Numbers
 inBits (Range field) = Range field
+inBits NoForm = NoForm

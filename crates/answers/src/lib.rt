@@ -51,5 +51,6 @@ pub fn refusal_answer(why: Refusal) -> u64
         Refusal::Checksum(line) => answer(4, line_number(line), 0, 0),
         Refusal::Numbers => answer(5, 0, 0, 0),
         Refusal::Range(field) => answer(6, 0, field_number(field), 0),
+        Refusal::NoForm => answer(16, 0, 0, 0),
     }
 }

@@ -282,6 +282,7 @@ refusal-not (read.Column line column) e = omega arith
 refusal-not (read.Checksum line) e = omega arith
 refusal-not read.Numbers e = omega arith
 refusal-not (read.Range field) e = omega arith
+refusal-not read.NoForm e = omega arith
 
 number-not : (why : O.Refusal) → answer (number why) 0 0 0 ≡ 0 → ⊥
 unfolding number answer

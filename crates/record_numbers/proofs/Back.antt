@@ -18,10 +18,12 @@ use Rattle.tle.specs.declared.Designator.{Designator}
 use Rattle.tle.specs.declared.Designator.the-variants.{Blank, Piece}
 use Rattle.tle.specs.declared.Record.{Record}
 use Rattle.tle.specs.Read.{letter}
-use Rattle.tle_writer.proofs.Facts.{Facts, both, facts, day-below}
+use Rattle.tle_writer.proofs.Facts.{Facts, both, formed, facts}
 use Rattle.tle_writer.proofs.Values.{class-value}
-use Rattle.record_numbers.specs.Numbers.{placesOf, numbersOf, whole, byte, designatorFrom, designatorAt, at, recordAt, Small, isClass, givenOf, storeRefusal, storedOver}
-use Rattle.record_numbers.specs.Back.{StoredIsGiven, GivenIsStored}
+use Rattle.tle.proofs.Meaning.{forms-yield, gone-on}
+use Rattle.record_numbers.specs.declared.Judged.the-variants as judged
+use Rattle.record_numbers.specs.Numbers.{placesOf, numbersOf, whole, byte, designatorFrom, designatorAt, at, recordAt, Small, isClass, givenOf, storeRefusal, storedOver, fieldsRefusal, fieldsOver, judgedOf}
+use Rattle.record_numbers.specs.Back.{StoredIsGiven, JudgedAsRead, GivenIsStored}
 use Rattle.record_numbers.specs.declared.Places.{Places}
 use Rattle.record_numbers.specs.declared.Given.{Given}
 use Rattle.record_numbers.specs.declared.Given.the-variants.{Fields, NoClass, TooShort}
@@ -95,10 +97,20 @@ class-at : (r : Record) (ns : List ℤ) → isClass (byte (at (numbersOf r ++ ns
 unfolding numbersOf
 class-at r ns = ap isClass (letter-back (r .class)) ∙ class-is (r .class)
 
+given-back : (r : Record) (ns : List ℤ) → Facts r → givenOf (numbersOf r ++ ns) ≡ Fields r
+unfolding givenOf
+given-back r ns k = rw (long r ns, class-at r ns) (ap Fields (record-back r ns k))
+
 pub stored-is-given : StoredIsGiven
-unfolding givenOf storedOver storeRefusal
-stored-is-given r ns h k =
-    rw (h, le-ltb (length ns) 22 k, long r (drop 22 ns), class-at r (drop 22 ns)) (ap Fields (record-back r (drop 22 ns) (facts r h)))
+unfolding storedOver storeRefusal
+stored-is-given r ns h k = rw (h, le-ltb (length ns) 22 k) (given-back r (drop 22 ns) (facts r h))
+
+pub judged-as-read : JudgedAsRead
+unfolding judgedOf fieldsOver fieldsRefusal
+judged-as-read line1 line2 f ns e k =
+    let h = forms-yield line1 line2 f e in
+    rw (h, le-ltb (length ns) 22 k, given-back (f .0) (drop 22 ns) (formed (f .0) h))
+    (ap judged.Meaning (gone-on line1 line2 (sym e) refl refl))
 
 -- ── numbers that give a legal record are the record's ──
 

@@ -1,4 +1,4 @@
--- The numbers of a legal record are small.
+-- The numbers of fields in form are small, and so those of a legal record.
 use Prim.Native.Nat.{ℕ, _<_, _≤_, _^_}
 use mathlib.Core.Path.{_≡_, refl}
 use mathlib.Core.Bool.{Bool, true, false, not, _&&_, _||_}
@@ -7,7 +7,7 @@ use borrow.Author.Tests.{ltb-true, leb-true, eqb-true}
 use lib.Dec.{eqb, leb, ltb}
 use lib.IntN.{natAbs}
 use Rattle.columns.specs.Layout.{isLetter, isBlank}
-use Rattle.tle.specs.Legal.{legal, designatorFits, scaledFits}
+use Rattle.tle.specs.Legal.{legal, inForm, designatorFits, scaledFits}
 use Rattle.tle.specs.declared.Class.{Class}
 use Rattle.tle.specs.declared.Class.the-variants.{Unclassified, Classified, Secret}
 use Rattle.tle.specs.declared.Designator.{Designator}
@@ -15,7 +15,7 @@ use Rattle.tle.specs.declared.Designator.the-variants.{Blank, Piece}
 use Rattle.tle.specs.declared.Scaled.{Scaled}
 use Rattle.tle.specs.declared.Record.{Record}
 use Rattle.tle.specs.Read.{letter}
-use Rattle.tle_writer.proofs.Facts.{both, facts, day-below}
+use Rattle.tle_writer.proofs.Facts.{both, formed, legal-in-form}
 use Rattle.record_numbers.specs.Numbers.{placesOf, Small}
 
 -- a byte that is not 0
@@ -60,9 +60,9 @@ scaled-small s h =
     let u = both (ltb (natAbs (s .mantissa)) 100000) (ltb (natAbs (s .exponent)) 10) (t .0) in
     (ltb-true _ _ (u .0), ltb-true _ _ (u .1))
 
-pub small : (r : Record) → legal r ≡ true → Small r
-small r h =
-    let k = facts r h in
+pub small-form : (r : Record) → inForm r ≡ true → Small r
+small-form r h =
+    let k = formed r h in
     let d = places-small (r .designator) (k .designator) in
     let n = scaled-small (r .nddot) (k .nddot) in
     let b = scaled-small (r .bstar) (k .bstar) in (
@@ -72,7 +72,7 @@ small r h =
       omega (arith, d .3),
       omega (arith, k .number),
       omega (arith, k .yearHigh),
-      omega (arith, day-below (r .year) (r .day) (k .day)),
+      omega (arith, k .day),
       omega (arith, k .ephemeris),
       omega (arith, k .element),
       omega (arith, k .inclination),
@@ -88,3 +88,6 @@ small r h =
       omega (arith, b .0),
       omega (arith, b .1),
     )
+
+pub small : (r : Record) → legal r ≡ true → Small r
+small r h = small-form r (legal-in-form r h)

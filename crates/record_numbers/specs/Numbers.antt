@@ -10,15 +10,20 @@ use mathlib.Core.List.{List, [], _∷_, _++_}
 use lib.Dec.{eqb, ltb}
 use lib.IntN.{ℤ, pos, negsuc, natAbs}
 use lib.ListN.{length, drop, getD}
-use Rattle.tle.specs.Legal.{legal}
-use Rattle.tle.specs.Read.{classOf, letter}
+use Rattle.tle.specs.Legal.{inForm, legal}
+use Rattle.tle.specs.Read.{classOf, letter, meaningOf}
 use Rattle.tle.specs.declared.Designator.{Designator}
 use Rattle.tle.specs.declared.Designator.the-variants as designator
 use Rattle.tle.specs.declared.Scaled.{Scaled}
 use Rattle.tle.specs.declared.Record.{Record}
+use Rattle.tle.specs.declared.Fields as tle-fields
+use Rattle.tle.specs.declared.Refusal.the-variants.{NoForm}
+use Rattle.tle.specs.declared.Reading.the-variants as reading
 use Rattle.record_numbers.specs.declared.Places.{Places}
 use Rattle.record_numbers.specs.declared.Given.{Given}
 use Rattle.record_numbers.specs.declared.Given.the-variants.{Fields, NoClass, TooShort}
+use Rattle.record_numbers.specs.declared.Judged.{Judged}
+use Rattle.record_numbers.specs.declared.Judged.the-variants as judged
 
 -- ── the numbers of a record ──
 
@@ -112,3 +117,21 @@ storeRefusal r n = cond (legal r) (cond (ltb n 22) 17 0) 16
 -- what lies past a record stays
 unfoldable pub storedOver : Record → List ℤ → List ℤ
 storedOver r ns = cond (eqb (storeRefusal r (length ns)) 0) (numbersOf r ++ drop 22 ns) ns
+
+-- ── document 02, wish 9: fields that are not judged ──
+
+-- they are stored in range or not; 16 where no accepted form yields them, then 17
+unfoldable pub fieldsRefusal : tle-fields.Fields → ℕ → ℕ
+fieldsRefusal f n = cond (inForm (f .0)) (cond (ltb n 22) 17 0) 16
+
+unfoldable pub fieldsOver : tle-fields.Fields → List ℤ → List ℤ
+fieldsOver f ns = cond (eqb (fieldsRefusal f (length ns)) 0) (numbersOf (f .0) ++ drop 22 ns) ns
+
+-- what the fields of numbers mean; a class that is none is in no form
+abbrev pub judgedBy : Given → Judged
+judgedBy (Fields r) = judged.Meaning (meaningOf (record { 0 = r }))
+judgedBy NoClass = judged.Meaning (reading.Refused NoForm)
+judgedBy TooShort = judged.TooShort
+
+unfoldable pub judgedOf : List ℤ → Judged
+judgedOf ns = judgedBy (givenOf ns)

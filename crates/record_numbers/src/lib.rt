@@ -1,4 +1,5 @@
-// A record as whole numbers in memory that a caller lends. specs/Numbers has the layout.
+// A record, or fields not yet judged, as whole numbers in memory that a caller lends. specs/Numbers has
+// the layout.
 ghost use mathlib.Core.Path.{_≡_};
 ghost use mathlib.Core.List.{_++_};
 ghost use Prim.Native.Nat.{_+_, _<_, _≤_, _^_};
@@ -8,9 +9,14 @@ ghost use Rattle.tle.specs.Read.{letter};
 ghost use Rattle.record_numbers.specs.Numbers as N;
 use tle::Class;
 use tle::Designator;
+use tle::Fields;
+use tle::Reading;
 use tle::Record;
+use tle::Refusal;
 use tle::Scaled;
+use tle::in_form;
 use tle::legal;
+use tle::read_meaning;
 
 // What numbers give: a record, legal or not; 16, since the class is none; 17, since there are fewer
 // than 22.
@@ -134,6 +140,23 @@ pub fn store_record(r: Record, fields: &mut [i64]) -> u8
     0
 }
 
+// The numbers of fields, in range or not, at the front of the memory: 0, or refusal 16 or 17 with
+// nothing written. Fields of an accepted form are never refused with 16.
+pub fn store_fields(f: Fields, fields: &mut [i64]) -> u8
+    ensures { λ k. ⌜ k ≡ N.fieldsRefusal f (length (now (fields .entry))) ⌝ }
+    ensures { λ _. ⌜ now (fields .exit) ≡ N.fieldsOver f (now (fields .entry)) ⌝ }
+{
+    let r = f.unjudged();
+    if !in_form(r) {
+        return 16;
+    }
+    if fields.len() < 22 {
+        return 17;
+    }
+    put_front(numbers_of(r), fields);
+    0
+}
+
 fn whole(x: i64) -> u64
     ensures { λ r. ⌜ r ≡ N.whole x ⌝ }
 {
@@ -237,4 +260,22 @@ pub fn record_of(fields: &[i64]) -> Given
         return Given::NoClass;
     }
     Given::Fields(record_at(fields))
+}
+
+// What judging numbers gives: what the fields that they give mean, or 17, since there are fewer than 22.
+pub enum Judged {
+    Meaning(Reading),
+    TooShort,
+}
+
+// The meaning of the fields that the numbers at the front of the memory give, whoever wrote them.
+pub fn judge_numbers(fields: &[i64]) -> Judged
+    ensures { λ r. ⌜ r ≡ N.judgedOf (now (fields .entry)) ⌝ }
+{
+    let given = record_of(fields);
+    match given {
+        Given::Fields(r) => Judged::Meaning(read_meaning(Fields::of(r))),
+        Given::NoClass => Judged::Meaning(Reading::Refused(Refusal::NoForm)),
+        Given::TooShort => Judged::TooShort,
+    }
 }

@@ -8,7 +8,7 @@ use Rattle.tle.specs.declared.Line.the-variants.{One, Two}
 use Rattle.tle.specs.declared.Field.{Field}
 use Rattle.tle.specs.declared.Field.the-variants.{Day, Inclination, Node, Perigee, Anomaly, Motion}
 use Rattle.tle.specs.declared.Refusal.{Refusal}
-use Rattle.tle.specs.declared.Refusal.the-variants.{Length, Start, Column, Checksum, Numbers, Range}
+use Rattle.tle.specs.declared.Refusal.the-variants.{Length, Start, Column, Checksum, Numbers, Range, NoForm}
 
 unfoldable pub lineText : Line → List ℕ
 lineText One = bytes " 1"
@@ -32,6 +32,7 @@ valuesText (Column line column) = placeText line column
 valuesText (Checksum line) = lineText line
 valuesText Numbers = []
 valuesText (Range field) = fieldText field
+valuesText NoForm = []
 
 unfoldable pub refusalText : Refusal → List ℕ
 refusalText why = bytes "refused " ++ (decimal (numberOf why) ++ (valuesText why ++ (10 ∷ [])))

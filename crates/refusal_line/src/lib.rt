@@ -56,6 +56,7 @@ fn put_values(out: &mut [u8], at: usize, refusal: Refusal) -> usize
         Refusal::Checksum(line) => put_line_number(out, at, line),
         Refusal::Numbers => put_bytes(out, at, b""),
         Refusal::Range(field) => put_field(out, at, field),
+        Refusal::NoForm => put_bytes(out, at, b""),
     }
 }
 

@@ -13,7 +13,7 @@ use Rattle.tle.specs.Read.{readOf}
 use Rattle.tle.specs.Refusals.{numberOf}
 use Rattle.tle.specs.declared.Record.{Record}
 use Rattle.tle.specs.declared.Refusal.{Refusal}
-use Rattle.tle.specs.declared.Refusal.the-variants.{Length, Start, Column, Checksum, Numbers, Range}
+use Rattle.tle.specs.declared.Refusal.the-variants.{Length, Start, Column, Checksum, Numbers, Range, NoForm}
 use Rattle.tle.specs.declared.Reading.{Reading}
 use Rattle.tle.specs.declared.Reading.the-variants as reading
 use Rattle.tle.proofs.Accepted.{accepted-are-legal}
@@ -54,6 +54,7 @@ refusal-number (Column line column) = refl
 refusal-number (Checksum line) = refl
 refusal-number Numbers = refl
 refusal-number (Range field) = refl
+refusal-number NoForm = refl
 
 -- ── each call ──
 

@@ -12,8 +12,8 @@ use Rattle.instant.specs.Calendar.{dayInRange, yearInRange, epochOf}
 use Rattle.instant.proofs.Theorems.{epochs-apart}
 use Rattle.columns.specs.Layout.{layout1, layout2}
 use Rattle.tle.specs.Number.{field, minus, signed}
-use Rattle.tle.specs.Legal.{inclinationInRange, angleInRange, motionInRange, inRanges, designatorFits, scaledFits, inLayout, legal}
-use Rattle.tle.specs.Read.{unless, verdictOf, pairOf, numberAt, yearOf, minusAt, ndotAt, scaledAt, motionAt, fieldsOf, formed, formOf, rangesOf, ranged, readOf}
+use Rattle.tle.specs.Legal.{inclinationInRange, angleInRange, motionInRange, inRanges, designatorFits, scaledFits, inLayout, inPlaces, inForm, legal}
+use Rattle.tle.specs.Read.{unless, verdictOf, pairOf, numberAt, yearOf, minusAt, ndotAt, scaledAt, dayAt, degreesAt, motionAt, fieldsOf, formed, formOf, rangesOf, ranged, readOf}
 use Rattle.tle.specs.Claims.{AcceptedAreLegal, EpochsInside, EpochsDated}
 use Rattle.tle.specs.declared.Record.{Record}
 use Rattle.tle.specs.declared.Line.the-variants.{One}
@@ -79,16 +79,34 @@ in-layout line1 line2 e =
     and below 62 1 line1 10 refl and below 64 4 line1 10000 refl and below 26 7 line2 10000000 refl
     and lt-ltb (field 52 2 line2 * 100000000 + field 55 8 line2) 10000000000 motion and below 63 5 line2 100000 refl
 
+-- ddd.dddd
+degrees : (at : ℕ) (line : List ℕ) → ltb (degreesAt at line) 10000000 ≡ true
+unfolding degreesAt
+degrees at line =
+    let h : field at 3 line * 10000 + field (at + 4) 4 line < 10000000 = omega (arith, field-below at 3 line, field-below (at + 4) 4 line) in
+    lt-ltb (field at 3 line * 10000 + field (at + 4) 4 line) 10000000 h
+
+in-places : (line1 line2 : List ℕ) → inPlaces (fieldsOf line1 line2) ≡ true
+unfolding inPlaces fieldsOf dayAt
+in-places line1 line2 =
+    let h : field 20 3 line1 * 100000000 + field 24 8 line1 < 100000000000 = omega (arith, field-below 20 3 line1, field-below 24 8 line1) in
+    lt-ltb (field 20 3 line1 * 100000000 + field 24 8 line1) 100000000000 h
+    and degrees 8 line2 and degrees 17 line2 and degrees 34 line2 and degrees 43 line2
+
+pub in-form : (line1 line2 : List ℕ) → pairOf line1 line2 ≡ verdict.Lawful → inForm (fieldsOf line1 line2) ≡ true
+unfolding inForm
+in-form line1 line2 e = in-layout line1 line2 e and in-places line1 line2
+
 -- a record that passes its ranges
 abbrev recordOr : Record → Reading → Record
 recordOr d (reading.Record r) = r
 recordOr d (reading.Refused why) = d
 
-within : (test : Bool) (why : Refusal) (next : Reading) (r : Record) → unless test (reading.Refused why) next ≡ reading.Record r → (test ≡ true) × (next ≡ reading.Record r)
+pub within : (test : Bool) (why : Refusal) (next : Reading) (r : Record) → unless test (reading.Refused why) next ≡ reading.Record r → (test ≡ true) × (next ≡ reading.Record r)
 within true why next r e = (refl, e)
 within false why next r e = let z : _≡_ {A = ℕ} 0 1 = cc in absurd (omega arith)
 
-in-ranges : (s r : Record) → rangesOf s ≡ reading.Record r → (inRanges s ≡ true) × (s ≡ r)
+pub in-ranges : (s r : Record) → rangesOf s ≡ reading.Record r → (inRanges s ≡ true) × (s ≡ r)
 unfolding rangesOf inRanges
 in-ranges s r e =
     let motion = unless (motionInRange (s .motion)) (reading.Refused (Range Motion)) (reading.Record s) in

@@ -20,7 +20,7 @@ use Rattle.tle.specs.declared.Line.{Line}
 use Rattle.tle.specs.declared.Line.the-variants.{One, Two}
 use Rattle.tle.specs.declared.Field.the-variants.{Day, Inclination, Node, Perigee, Anomaly, Motion}
 use Rattle.tle.specs.declared.Refusal.{Refusal}
-use Rattle.tle.specs.declared.Refusal.the-variants.{Length, Start, Column, Checksum, Numbers, Range}
+use Rattle.tle.specs.declared.Refusal.the-variants.{Length, Start, Column, Checksum, Numbers, Range, NoForm}
 use Rattle.tle.specs.declared.Verdict.{Verdict}
 use Rattle.tle.specs.declared.Verdict.the-variants as verdict
 use Rattle.tle.specs.declared.Form.{Form}
@@ -83,6 +83,7 @@ is3 (reading.Refused (Start which)) = false
 is3 (reading.Refused (Checksum which)) = false
 is3 (reading.Refused Numbers) = false
 is3 (reading.Refused (Range field)) = false
+is3 (reading.Refused NoForm) = false
 is3 (reading.Record r) = false
 
 neither : (test : Bool) (a b : Reading) → is3 a ≡ false → is3 b ≡ false → is3 (unless test a b) ≡ false
@@ -100,7 +101,7 @@ ranges-not r =
     (neither (motionInRange (r .motion)) _ _ refl refl)))))
 
 form3 : (f : Form) (w : Line) (column : ℕ) → ranged f ≡ reading.Refused (Column w column) → f ≡ form.Refused (Column w column)
-form3 (form.Fields r) w column e = let h : is3 (rangesOf r) ≡ true = ap is3 e in let z : _≡_ {A = Bool} true false = sym h ∙ ranges-not r in let o : _≡_ {A = ℕ} 0 1 = cc in absurd (omega arith)
+form3 (form.Fields f) w column e = let h : is3 (rangesOf (f .0)) ≡ true = ap is3 e in let z : _≡_ {A = Bool} true false = sym h ∙ ranges-not (f .0) in let o : _≡_ {A = ℕ} 0 1 = cc in absurd (omega arith)
 form3 (form.Refused why) w column e = let s : why ≡ Column w column = cc in ap form.Refused s
 
 pair3 : (v : Verdict) (r : Record) (w : Line) (column : ℕ) → formed v r ≡ form.Refused (Column w column) → v ≡ verdict.Refused (Column w column)

@@ -1,5 +1,6 @@
--- What is claimed of reading, beyond its definition. Proved in proofs/Least.antt, proofs/Accepted.antt and proofs/FirstPlaces.antt.
-use Prim.Native.Nat.{ℕ, _*_, _/_, _%_}
+-- What is claimed of reading, beyond its definition. Proved in proofs/Least.antt, proofs/Accepted.antt, proofs/Meaning.antt and
+-- proofs/FirstPlaces.antt.
+use Prim.Native.Nat.{ℕ, _*_, _/_, _%_, _≤_}
 use mathlib.Core.Path.{_≡_}
 use mathlib.Core.Bool.{true, false}
 use mathlib.Core.List.{List, _∷_, _++_}
@@ -10,13 +11,17 @@ use Rattle.instant.specs.declared.Epoch.the-variants as epoch
 use Rattle.text.specs.Output.{bytes}
 use Rattle.columns.specs.Layout.{layout1, layout2, opensNumber}
 use Rattle.columns.specs.Claims.{FirstFault}
-use Rattle.tle.specs.Legal.{legal}
-use Rattle.tle.specs.Read.{verdictOf, readOf}
+use Rattle.tle.specs.Legal.{inForm, legal}
+use Rattle.tle.specs.Refusals.{numberOf}
+use Rattle.tle.specs.Read.{verdictOf, formOf, meaningOf, meant, readOf}
 use Rattle.tle.specs.declared.Record.{Record}
 use Rattle.tle.specs.declared.Line.{Line}
 use Rattle.tle.specs.declared.Line.the-variants.{One, Two}
-use Rattle.tle.specs.declared.Refusal.the-variants.{Column}
+use Rattle.tle.specs.declared.Fields.{Fields}
+use Rattle.tle.specs.declared.Refusal.{Refusal}
+use Rattle.tle.specs.declared.Refusal.the-variants.{Column, NoForm}
 use Rattle.tle.specs.declared.Verdict.the-variants as verdict
+use Rattle.tle.specs.declared.Form.the-variants as form
 use Rattle.tle.specs.declared.Reading.the-variants as reading
 
 abbrev pub layoutOf : Line → List ℕ
@@ -36,6 +41,22 @@ FirstColumn =
 -- every record that reading accepts is legal
 abbrev pub AcceptedAreLegal : Type 0
 AcceptedAreLegal = (line1 line2 : List ℕ) (r : Record) → readOf line1 line2 ≡ reading.Record r → legal r ≡ true
+
+-- document 02, wish 9: the two operations, one after the other, answer exactly as the single one did
+abbrev pub FormThenMeaning : Type 0
+FormThenMeaning = (line1 line2 : List ℕ) → meant (formOf line1 line2) ≡ readOf line1 line2
+
+-- the first gives refusals 1 to 5 alone
+abbrev pub FormRefusals : Type 0
+FormRefusals = (line1 line2 : List ℕ) (why : Refusal) → formOf line1 line2 ≡ form.Refused why → numberOf why ≤ 5
+
+-- the fields that it yields are in form; that it yields all such fields is `FormsExactly` of specs/Claims of crate `tle_writer`
+abbrev pub FormsYield : Type 0
+FormsYield = (line1 line2 : List ℕ) (f : Fields) → formOf line1 line2 ≡ form.Fields f → inForm (f .0) ≡ true
+
+-- so the second never gives 16 after it
+abbrev pub NeverSixteen : Type 0
+NeverSixteen = (line1 line2 : List ℕ) (f : Fields) → formOf line1 line2 ≡ form.Fields f → meaningOf f ≡ reading.Refused NoForm → ⊥
 
 -- the epoch of a legal record is an instant inside 1957-2056
 abbrev pub EpochsInside : Type 0

@@ -1,5 +1,5 @@
--- 002's example: its two lines, and the record that reading them gives; catalogue numbers with letters; last days of years. Document 01's
--- cases at the edges, and pairs with such days, are in crate edge_cases.
+-- 002's example: its two lines, and the record that reading them gives; catalogue numbers with letters; last days of years; fields that
+-- are well formed and out of range. Document 01's cases at the edges, and pairs with such days, are in crate edge_cases.
 use Prim.Native.Nat.{ℕ}
 use mathlib.Core.Path.{_≡_, refl}
 use mathlib.Core.List.{List, [], _∷_, map}
@@ -12,11 +12,13 @@ use Rattle.columns.specs.Sum.{digitOf, sum}
 use Rattle.tle.specs.Number.{valueOn, signed, minus}
 use Rattle.columns.specs.FirstPlace.{position, firstOf}
 use Rattle.tle.specs.Catalogue.{catalogueOf}
-use Rattle.tle.specs.Legal.{inRanges, designatorFits, scaledFits, inLayout, legal}
-use Rattle.tle.specs.Read.{verdictOf, numberAt, pairOf, classOf, designatorAt, yearOf, ndotAt, scaledAt, dayAt, motionAt, degreesAt, fieldsOf, formOf, rangesOf, readOf}
+use Rattle.tle.specs.Legal.{inRanges, designatorFits, scaledFits, inLayout, inPlaces, inForm, legal}
+use Rattle.tle.specs.Read.{verdictOf, numberAt, pairOf, classOf, designatorAt, yearOf, ndotAt, scaledAt, dayAt, motionAt, degreesAt, fieldsOf, formOf, rangesOf, meaningOf, readOf}
 use Rattle.tle.specs.declared.Class.the-variants.{Unclassified}
 use Rattle.tle.specs.declared.Designator.the-variants.{Piece}
 use Rattle.tle.specs.declared.Record.{Record}
+use Rattle.tle.specs.declared.Field.the-variants.{Day}
+use Rattle.tle.specs.declared.Refusal.the-variants.{Range, NoForm}
 use Rattle.tle.specs.declared.Reading.the-variants as reading
 
 abbrev pub line1 : List ℕ
@@ -84,3 +86,16 @@ long-year = refl
 pub short-year : legal (stamped 2001 36650000000) ≡ false
 unfolding legal inLayout inRanges designatorFits scaledFits dayInRange lastDay daysIn
 short-year = refl
+
+-- document 02, wish 9: that day is in form and refused with 6; with a catalogue number that no form yields, 16 comes before 6
+pub well-formed : inForm (stamped 2001 36650000000) ≡ true
+unfolding inForm inLayout inPlaces designatorFits scaledFits
+well-formed = refl
+
+pub impossible : meaningOf (record { 0 = stamped 2001 36650000000 }) ≡ reading.Refused (Range Day)
+unfolding meaningOf inForm inLayout inPlaces designatorFits scaledFits rangesOf dayInRange lastDay daysIn
+impossible = refl
+
+pub sixteen-first : meaningOf (record { 0 = varied 340000 2001 36650000000 }) ≡ reading.Refused NoForm
+unfolding meaningOf inForm inLayout inPlaces designatorFits scaledFits
+sixteen-first = refl

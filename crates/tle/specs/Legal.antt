@@ -52,5 +52,15 @@ inLayout r =
     && ltb (r .ephemeris) 10 && ltb (r .element) 10000 && ltb (r .eccentricity) 10000000
     && ltb (r .motion) 10000000000 && ltb (r .revolution) 100000
 
+-- what the columns can hold of the others: three places before the point of a day and of an angle
+unfoldable pub inPlaces : Record → Bool
+inPlaces r =
+    ltb (r .day) 100000000000 && ltb (r .inclination) 10000000 && ltb (r .node) 10000000 && ltb (r .perigee) 10000000
+    && ltb (r .anomaly) 10000000
+
+-- document 02, wish 9: an accepted form yields these fields (`FormsExactly` of specs/Claims of crate `tle_writer`)
+unfoldable pub inForm : Record → Bool
+inForm r = inLayout r && inPlaces r
+
 unfoldable pub legal : Record → Bool
 legal r = inLayout r && inRanges r

@@ -1,4 +1,5 @@
--- Document 01, "The two lines" and "Refusal numbers" 1 to 6: what reading two lines gives.
+-- Document 01, "The two lines" and "Refusal numbers" 1 to 6: what reading two lines gives. Document 02, wish 9: first their form, then its
+-- meaning.
 use Prim.Native.Nat.{ℕ, _+_, _*_, _%_}
 use mathlib.Core.List.{List}
 use mathlib.Core.Bool.{Bool, true, cond}
@@ -11,17 +12,19 @@ use Rattle.columns.specs.Sum.{digitOf, sum}
 use Rattle.tle.specs.Number.{field, signed}
 use Rattle.tle.specs.Catalogue.{catalogueOf}
 use Rattle.instant.specs.Calendar.{dayInRange}
-use Rattle.tle.specs.Legal.{inclinationInRange, angleInRange, motionInRange}
+use Rattle.tle.specs.Legal.{inclinationInRange, angleInRange, motionInRange, inForm}
 use Rattle.tle.specs.declared.Class.{Class}
 use Rattle.tle.specs.declared.Class.the-variants.{Unclassified, Classified, Secret}
 use Rattle.tle.specs.declared.Designator.{Designator}
 use Rattle.tle.specs.declared.Designator.the-variants.{Blank, Piece}
 use Rattle.tle.specs.declared.Scaled.{Scaled}
 use Rattle.tle.specs.declared.Record.{Record}
+use Rattle.tle.specs.declared.Fields.{Fields}
 use Rattle.tle.specs.declared.Line.{Line}
 use Rattle.tle.specs.declared.Line.the-variants.{One, Two}
 use Rattle.tle.specs.declared.Field.the-variants.{Day, Inclination, Node, Perigee, Anomaly, Motion}
-use Rattle.tle.specs.declared.Refusal.the-variants.{Length, Start, Column, Checksum, Numbers, Range}
+use Rattle.tle.specs.declared.Refusal.{Refusal}
+use Rattle.tle.specs.declared.Refusal.the-variants.{Length, Start, Column, Checksum, Numbers, Range, NoForm}
 use Rattle.tle.specs.declared.Verdict.{Verdict}
 use Rattle.tle.specs.declared.Verdict.the-variants as verdict
 use Rattle.tle.specs.declared.Form.{Form}
@@ -130,7 +133,7 @@ fieldsOf line1 line2 = record {
 
 -- a verdict on two lines, with their fields
 abbrev pub formed : Verdict → Record → Form
-formed verdict.Lawful r = form.Fields r
+formed verdict.Lawful r = form.Fields (record { 0 = r })
 formed (verdict.Refused why) r = form.Refused why
 
 -- the form of two lines: refusals 1 to 5, or the fields
@@ -147,16 +150,25 @@ rangesOf r =
     (unless (angleInRange (r .anomaly)) (reading.Refused (Range Anomaly))
     (unless (motionInRange (r .motion)) (reading.Refused (Range Motion)) (reading.Record r))))))
 
--- a form as a reading, its ranges not judged
-abbrev pub asReading : Form → Reading
-asReading (form.Fields r) = reading.Record r
-asReading (form.Refused why) = reading.Refused why
+-- the meaning of fields: 16 where no accepted form yields them, then 6, or the record
+unfoldable pub meaningOf : Fields → Reading
+meaningOf f = unless (inForm (f .0)) (reading.Refused NoForm) (rangesOf (f .0))
 
--- what the form gives, by its ranges
+-- the refusal of a form that is refused; of fields, which are not, it counts as 16
+abbrev pub refusalIn : Form → Refusal
+refusalIn (form.Fields f) = NoForm
+refusalIn (form.Refused why) = why
+
+-- what the two operations give, one after the other: the form's refusal, or the meaning of its fields
+abbrev pub meant : Form → Reading
+meant (form.Fields f) = meaningOf f
+meant (form.Refused why) = reading.Refused why
+
+-- a form's refusal, or 6, or the record
 abbrev pub ranged : Form → Reading
-ranged (form.Fields r) = rangesOf r
+ranged (form.Fields f) = rangesOf (f .0)
 ranged (form.Refused why) = reading.Refused why
 
--- reading: the form, then the ranges
+-- reading as a whole: refusals 1 to 5, then 6. The two operations give the same (`FormThenMeaning` of specs/Claims)
 unfoldable pub readOf : List ℕ → List ℕ → Reading
 readOf line1 line2 = ranged (formOf line1 line2)

@@ -2,7 +2,7 @@
 
 ghost use mathlib.Core.Path.{_≡_};
 ghost use Rattle.instant.specs.Calendar.{epochOf};
-ghost use Rattle.tle.specs.Read.{classOf, letter};
+ghost use Rattle.tle.specs.Read.{classOf, letter, refusalIn};
 ghost use Rattle.tle.specs.Refusals.{numberOf};
 use instant::Epoch;
 use instant::epoch_instant;
@@ -10,8 +10,11 @@ use instant::epoch_instant;
 mod limits;
 mod reader;
 
+pub use limits::in_form;
 pub use limits::legal;
 pub use reader::read;
+pub use reader::read_form;
+pub use reader::read_meaning;
 
 pub enum Class {
     Unclassified,
@@ -82,6 +85,27 @@ pub struct Record {
     pub revolution: u64,
 }
 
+// What an accepted form yields: the fields of a record, held to no range. What takes a record does not
+// take them; read_meaning, which judges them, makes the record.
+pub struct Fields(Record);
+
+impl Fields {
+    // Fields to be judged, whoever gives them.
+    pub fn of(r: Record) -> Fields
+        ensures { λ f. ⌜ f .0 ≡ r ⌝ }
+    {
+        Fields(r)
+    }
+
+    // The fields to be shown as they are. No range was held to: writing and opening judge the whole
+    // record again.
+    pub fn unjudged(self) -> Record
+        ensures { λ r. ⌜ r ≡ self .0 ⌝ }
+    {
+        self.0
+    }
+}
+
 // The record's epoch as an instant; of a legal record always inside 1957-2056.
 pub fn epoch(r: Record) -> Epoch
     ensures { λ e. ⌜ e ≡ epochOf (r .year) (r .day) ⌝ }
@@ -105,7 +129,8 @@ pub enum Field {
     Motion,
 }
 
-// Why two lines are refused: document 01's refusals 1 to 6, each with what comes back with it.
+// Why two lines are refused: document 01's refusals 1 to 6, each with what comes back with it. Fields
+// that no accepted form yields are refused with 16; no two lines are.
 pub enum Refusal {
     Length(Line),
     Start(Line),
@@ -113,6 +138,7 @@ pub enum Refusal {
     Checksum(Line),
     Numbers,
     Range(Field),
+    NoForm,
 }
 
 // What judging the columns of a line, or of two, finds.
@@ -123,11 +149,24 @@ pub enum Verdict {
 
 // What judging the form of two lines gives: their fields, or a refusal from 1 to 5.
 pub enum Form {
-    Fields(Record),
+    Fields(Fields),
     Refused(Refusal),
 }
 
-// What reading two lines gives: the record, whose fields are in their ranges, or a refusal from 1 to 6.
+impl Form {
+    // The refusal of a form that is refused, to be passed up. Of fields, which are not, it counts as 16.
+    pub fn refusal(self) -> Refusal
+        ensures { λ why. ⌜ why ≡ refusalIn self ⌝ }
+    {
+        match self {
+            Form::Fields(_) => Refusal::NoForm,
+            Form::Refused(why) => why,
+        }
+    }
+}
+
+// What judging the meaning of fields gives: the record, whose fields are in their ranges, or refusal
+// 16 or 6. With the refusals of their form, what reading two lines gives.
 pub enum Reading {
     Record(Record),
     Refused(Refusal),
@@ -145,6 +184,7 @@ impl Refusal {
             Refusal::Checksum(_) => 4,
             Refusal::Numbers => 5,
             Refusal::Range(_) => 6,
+            Refusal::NoForm => 16,
         }
     }
 }

@@ -2,7 +2,7 @@
 
 ghost use mathlib.Core.Path.{_≡_};
 ghost use Rattle.columns.specs.Layout.{isLetter};
-ghost use Rattle.tle.specs.Legal.{inclinationInRange, angleInRange, motionInRange, inRanges, pieceFits, designatorFits, scaledFits, inLayout, legal};
+ghost use Rattle.tle.specs.Legal.{inclinationInRange, angleInRange, motionInRange, inRanges, pieceFits, designatorFits, scaledFits, inLayout, inPlaces, inForm, legal};
 use super::Designator;
 use super::Record;
 use super::Scaled;
@@ -88,6 +88,23 @@ fn in_layout(r: Record) -> bool
         & (r.eccentricity < 10000000)
         & (r.motion < 10000000000)
         & (r.revolution < 100000)
+}
+
+fn in_places(r: Record) -> bool
+    ensures { λ b. ⌜ b ≡ inPlaces r ⌝ }
+{
+    (r.day < 100000000000)
+        & (r.inclination < 10000000)
+        & (r.node < 10000000)
+        & (r.perigee < 10000000)
+        & (r.anomaly < 10000000)
+}
+
+// Whether an accepted form yields these fields: judging their meaning refuses any other with 16.
+pub fn in_form(r: Record) -> bool
+    ensures { λ b. ⌜ b ≡ inForm r ⌝ }
+{
+    in_layout(r) & in_places(r)
 }
 
 // Whether a record is inside the layout and the ranges: writing and opening refuse any other with 16.

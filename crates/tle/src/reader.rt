@@ -1,14 +1,15 @@
-// Reading two lines: document 01, "The two lines" and refusals 1 to 6. First their form, then the
-// ranges of their fields.
+// Reading two lines: document 01, "The two lines" and refusals 1 to 6, in the two operations of
+// document 02, wish 9. read_form judges their form, read_meaning what it yields.
 
 ghost use mathlib.Core.Path.{_≡_};
 ghost use lib.ListN.{length};
 ghost use Prim.Native.Nat.{_+_, _^_, _≤_, _<_};
 ghost use Rattle.tle.specs.Number.{valueOn, field, signed};
-ghost use Rattle.tle.specs.Read.{verdictOf, numberAt, pairOf, designatorAt, yearOf, ndotAt, scaledAt, degreesAt, dayAt, motionAt, fieldsOf, formOf, rangesOf, asReading, readOf};
+ghost use Rattle.tle.specs.Read.{verdictOf, numberAt, pairOf, designatorAt, yearOf, ndotAt, scaledAt, degreesAt, dayAt, motionAt, fieldsOf, formOf, rangesOf, meaningOf, readOf};
 use super::Class;
 use super::Designator;
 use super::Field;
+use super::Fields;
 use super::Form;
 use super::Line;
 use super::Reading;
@@ -17,6 +18,7 @@ use super::Refusal;
 use super::Scaled;
 use super::Verdict;
 use super::limits::angle_in_range;
+use super::limits::in_form;
 use super::limits::inclination_in_range;
 use super::limits::motion_in_range;
 use columns::agreeing;
@@ -210,14 +212,14 @@ fn fields(line1: &[u8], line2: &[u8]) -> Record
     }
 }
 
-// The form of two lines: refusals 1 to 5, or the fields.
-fn read_form(line1: &[u8], line2: &[u8]) -> Form
+// The form of two lines, of any bytes and any lengths: refusals 1 to 5, or the fields.
+pub fn read_form(line1: &[u8], line2: &[u8]) -> Form
     ensures { λ r. ⌜ r ≡ formOf (now (line1 .entry)) (now (line2 .entry)) ⌝ }
 {
     let verdict = judge_pair(line1, line2);
     match verdict {
         Verdict::Refused(refusal) => Form::Refused(refusal),
-        Verdict::Lawful => Form::Fields(fields(line1, line2)),
+        Verdict::Lawful => Form::Fields(Fields(fields(line1, line2))),
     }
 }
 
@@ -246,14 +248,16 @@ fn judge_ranges(r: Record) -> Reading
     Reading::Record(r)
 }
 
-// A form as a reading, its ranges not judged: how a refusal is passed up.
-fn as_reading(form: Form) -> Reading
-    ensures { λ r. ⌜ r ≡ asReading form ⌝ }
+// The meaning of fields, whoever gives them: refusal 16 where no accepted form yields them, then 6, or
+// the record.
+pub fn read_meaning(fields: Fields) -> Reading
+    ensures { λ r. ⌜ r ≡ meaningOf fields ⌝ }
 {
-    match form {
-        Form::Fields(record) => Reading::Record(record),
-        Form::Refused(refusal) => Reading::Refused(refusal),
+    let r = fields.0;
+    if !in_form(r) {
+        return Reading::Refused(Refusal::NoForm);
     }
+    judge_ranges(r)
 }
 
 // Reads the two lines of a set, of any bytes and any lengths.
@@ -261,8 +265,8 @@ pub fn read(line1: &[u8], line2: &[u8]) -> Reading
     ensures { λ r. ⌜ r ≡ readOf (now (line1 .entry)) (now (line2 .entry)) ⌝ }
 {
     let form = read_form(line1, line2);
-    let Form::Fields(record) = form else {
-        return as_reading(form);
+    let Form::Fields(fields) = form else {
+        return Reading::Refused(form.refusal());
     };
-    judge_ranges(record)
+    read_meaning(fields)
 }

@@ -1,4 +1,4 @@
--- The fields of the two lines of a legal record are the record's.
+-- The fields of the two lines of a record in form are the record's.
 use Prim.Native.Nat.{ℕ, _+_, _/_, _%_, _<_, _^_}
 use mathlib.Core.Path.{_≡_, refl, ap, _∙_}
 use mathlib.Core.List.{List, [], _∷_, _++_}
@@ -18,7 +18,7 @@ use Rattle.tle.specs.declared.Line.the-variants.{One, Two}
 use Rattle.tle_writer.specs.Field.{place, lead, digits, numberPlaces, right, dayPlaces, fraction, scaled, designator}
 use Rattle.tle_writer.specs.Lines.{join, bodyOf, closedOf, lineOf}
 use Rattle.tle_writer.proofs.Bodies.{zero-of, launch-of, first-of, second-of, third-of, places}
-use Rattle.tle_writer.proofs.Facts.{Facts, both, day-below}
+use Rattle.tle_writer.proofs.Facts.{Facts, both}
 use Rattle.tle_writer.proofs.Values.{digits-value, right-value, degrees-value, motion-value, day-value, year-value, class-value, written-value, mantissa-value, exponent-value}
 use Rattle.tle_writer.proofs.Numbers.{numbers-read-back}
 
@@ -70,7 +70,7 @@ flat r k = λ i. record {
   class = class-value (r .class) i;
   designator = designator-value (r .designator) (k .designator) i;
   year = year-value (r .year) (k .yearLow) (k .yearHigh) i;
-  day = day-value (r .day) (day-below (r .year) (r .day) (k .day)) i;
+  day = day-value (r .day) (k .day) i;
   ndot = written-value 8 (r .ndot) (k .ndot) i;
   nddot = record {
     mantissa = mantissa-value (r .nddot) (k .nddot) i;
@@ -82,11 +82,11 @@ flat r k = λ i. record {
   };
   ephemeris = digits-value 1 (r .ephemeris) (k .ephemeris) i;
   element = right-value 3 (r .element) (k .element) i;
-  inclination = degrees-value (r .inclination) (omega arith) i;
-  node = degrees-value (r .node) (omega arith) i;
+  inclination = degrees-value (r .inclination) (k .inclination) i;
+  node = degrees-value (r .node) (k .node) i;
   eccentricity = digits-value 7 (r .eccentricity) (k .eccentricity) i;
-  perigee = degrees-value (r .perigee) (omega arith) i;
-  anomaly = degrees-value (r .anomaly) (omega arith) i;
+  perigee = degrees-value (r .perigee) (k .perigee) i;
+  anomaly = degrees-value (r .anomaly) (k .anomaly) i;
   motion = motion-value (r .motion) (k .motion) i;
   revolution = right-value 4 (r .revolution) (k .revolution) i;
 }

@@ -1,10 +1,11 @@
--- The way back: the two lines of a legal record are lawful, no column of them has a fault, and reading them gives that record.
+-- The way back: the two lines of a record in form are lawful, no column of them has a fault, and their form yields its fields. Reading
+-- those of a legal record gives that record.
 use Prim.Native.Nat.{ℕ, _+_, _%_}
 use mathlib.Core.Path.{_≡_, refl, ap, sym, _∙_}
 use mathlib.Core.List.{List, [], _∷_, _++_}
 use mathlib.Core.Bool.{Bool, true}
 use native.Mathlib.Omega.{arith}
-use borrow.Author.Tests.{eq-eqb, le-leb, lt-ltb}
+use borrow.Author.Tests.{eq-eqb}
 use lib.Dec.{eqb}
 use lib.ListN.{length, take, getD}
 use lib.Seq.{take-at, getD-at}
@@ -12,20 +13,25 @@ use Rattle.text.specs.Output.{bytes}
 use Rattle.columns.specs.Layout.{layout1, layout2, agreed}
 use Rattle.tle.specs.Claims.{layoutOf}
 use Rattle.columns.specs.Sum.{digitOf, sum}
-use Rattle.tle.specs.Legal.{legal}
-use Rattle.tle.specs.Read.{verdictOf, numberAt, pairOf, formOf, rangesOf, readOf}
+use Rattle.tle.specs.Legal.{inLayout, inPlaces, inForm, inRanges, legal}
+use Rattle.tle.specs.Read.{unless, verdictOf, numberAt, pairOf, formOf, rangesOf, meaningOf, ranged, readOf}
 use Rattle.tle.specs.declared.Record.{Record}
+use Rattle.tle.specs.declared.Fields.{Fields}
 use Rattle.tle.specs.declared.Line.{Line}
 use Rattle.tle.specs.declared.Line.the-variants.{One, Two}
 use Rattle.tle.specs.declared.Verdict.the-variants as verdict
 use Rattle.tle.specs.declared.Form.the-variants as form
 use Rattle.tle.specs.declared.Reading.the-variants as reading
+use Rattle.tle.specs.declared.Refusal.the-variants.{NoForm}
+use Rattle.tle.proofs.Meaning.{forms-yield}
+use Rattle.tle.proofs.Accepted.{within}
+use Rattle.tle.proofs.Accepted as T
 use Rattle.tle_writer.specs.Field.{place, lead, digits}
 use Rattle.tle_writer.specs.Lines.{join, pieces1, pieces2, bodyOf, closedOf, lineOf}
-use Rattle.tle_writer.specs.Claims.{WrittenAreLawful, ReturnTrip}
+use Rattle.tle_writer.specs.Claims.{WrittenAreLawful, FormsExactly, MeaningExactly, ReturnTrip}
 use Rattle.tle_writer.proofs.Bodies.{places}
 use Rattle.tle_writer.proofs.Writes.{length-line}
-use Rattle.tle_writer.proofs.Facts.{Facts, facts}
+use Rattle.tle_writer.proofs.Facts.{Facts, both, formed, facts, ranges, legal-in-form}
 use Rattle.tle_writer.proofs.Values.{place-value}
 use Rattle.tle_writer.proofs.Back.{fields-back}
 use Rattle.tle_writer.proofs.Keeps.{Field, end, _then_, _⊳_, none, blank, keeps-agreed, alls, leads, digits-keep, number-keeps, right-keep, pointed-keep, day-keeps, fraction-keeps, scaled-keeps, letter-keeps, designator-keeps}
@@ -92,32 +98,49 @@ module _ (body : List ℕ) (h : length body ≡ 68) where
       eq-eqb _ _ (ap (λ (l : List ℕ). sum l % 10) before ∙ sym (ap digitOf last ∙ place-value _ 48 (sum body % 10) refl refl ∙ e))
 
 -- a line written and judged has no fault in any column, and its checksum is right
-pub judged : (which : Line) (r : Record) → legal r ≡ true → verdictOf which (layoutOf which) (lineOf which r) ≡ verdict.Lawful
+pub judged : (which : Line) (r : Record) → Facts r → verdictOf which (layoutOf which) (lineOf which r) ≡ verdict.Lawful
 unfolding verdictOf lineOf
-judged which r h =
-    rw (length-line which r, agreed-all which r (facts r h), checks (bodyOf which r) (length-body which r))
+judged which r k =
+    rw (length-line which r, agreed-all which r k, checks (bodyOf which r) (length-body which r))
 
 -- both lines bear the record's catalogue number
 numbers : (r : Record) → numberAt (lineOf One r) ≡ numberAt (lineOf Two r)
 unfolding numberAt lineOf closedOf bodyOf join lead
 numbers r = refl
 
-pub pair-lawful : (r : Record) → legal r ≡ true → pairOf (lineOf One r) (lineOf Two r) ≡ verdict.Lawful
+pub pair-lawful : (r : Record) → Facts r → pairOf (lineOf One r) (lineOf Two r) ≡ verdict.Lawful
 unfolding pairOf
-pair-lawful r h = rw (judged One r h, judged Two r h, eq-eqb (numberAt (lineOf One r)) (numberAt (lineOf Two r)) (numbers r))
+pair-lawful r k = rw (judged One r k, judged Two r k, eq-eqb (numberAt (lineOf One r)) (numberAt (lineOf Two r)) (numbers r))
 
-in-ranges : (r : Record) → Facts r → rangesOf r ≡ reading.Record r
+-- their form yields the record's fields, in range or not
+pub form-back : (r : Record) → inForm r ≡ true → formOf (lineOf One r) (lineOf Two r) ≡ form.Fields (record { 0 = r })
+unfolding formOf
+form-back r h = rw (pair-lawful r (formed r h), fields-back r (formed r h))
+
+pub forms-exactly : FormsExactly
+forms-exactly f = (λ h. (lineOf One (f .0), lineOf Two (f .0), form-back (f .0) h), λ l. forms-yield (l .0) (l .1) f (l .2))
+
+in-ranges : (r : Record) → inRanges r ≡ true → rangesOf r ≡ reading.Record r
 unfolding rangesOf
-in-ranges r k =
-    rw (
-      k .day,
-      le-leb (r .inclination) 1800000 (k .inclination),
-      lt-ltb (r .node) 3600000 (k .node),
-      lt-ltb (r .perigee) 3600000 (k .perigee),
-      lt-ltb (r .anomaly) 3600000 (k .anomaly),
-      lt-ltb 0 (r .motion) (k .turns),
-    )
+in-ranges r h =
+    let k = ranges r h in
+    rw (k .day, k .inclination, k .node, k .perigee, k .anomaly, k .motion)
+
+legal-ranges : (r : Record) → legal r ≡ true → inRanges r ≡ true
+unfolding legal
+legal-ranges r h = both (inLayout r) (inRanges r) h .1
+
+-- fields in form and in their ranges are those of a legal record
+pub meaning-exactly : MeaningExactly
+unfolding meaningOf legal inForm
+meaning-exactly f r = (
+  λ e.
+      let w = within (inForm (f .0)) NoForm (rangesOf (f .0)) r e in
+      let g = T.in-ranges (f .0) r (w .1) in
+      (g .1, rw (← g .1) (rw (both (inLayout (f .0)) (inPlaces (f .0)) (w .0) .0, g .0))),
+  λ k. rw (k .0, legal-in-form r (k .1)) (in-ranges r (legal-ranges r (k .1))),
+)
 
 pub read-back : ReturnTrip
-unfolding readOf formOf
-read-back r h = rw (pair-lawful r h, fields-back r (facts r h)) (in-ranges r (facts r h))
+unfolding readOf
+read-back r h = ap ranged (form-back r (legal-in-form r h)) ∙ in-ranges r (legal-ranges r h)

@@ -29,11 +29,15 @@ returns-6 : tie.Need-returns-6
 unfolding refusalAnswer inBits
 returns-6 c = c .answer6 .ensures ∙ ap (λ z. answer 6 0 z 0) (c .before .field-number .ensures) ∙ sym (ap (λ z. refusalAnswer (inBits z)) (c .before .before .before .why5 .given .1))
 
+returns-7 : tie.Need-returns-7
+unfolding refusalAnswer inBits
+returns-7 c = c .answer7 .ensures ∙ sym (ap (λ z. refusalAnswer (inBits z)) (c .before .enum-told2 .given .1))
+
 pub refusal-answer-spec : {M : Type 1} → statement M
 refusal-answer-spec =
     tie.close
     (tie.spec
     (λ c. search needs) (λ c κs. search needs) (λ c κs. search needs) (λ c. search needs) (λ c κs. search needs) (λ c κs. search needs)
     (λ c. search needs) (λ c κs. search needs) (λ c. search needs) (λ c κs. search needs) (λ c. search needs) (λ c κs. search needs) (λ c κs. search needs)
-    (λ c. search needs) (λ c κs. search needs) (λ c. search needs) (λ c κs. search needs) (λ c κs. search needs)
-    returns returns-2 returns-3 returns-4 returns-5 returns-6)
+    (λ c. search needs) (λ c κs. search needs) (λ c. search needs) (λ c κs. search needs) (λ c κs. search needs) (λ c. search needs) (λ c κs. search needs)
+    returns returns-2 returns-3 returns-4 returns-5 returns-6 returns-7)

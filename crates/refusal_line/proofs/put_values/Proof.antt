@@ -29,11 +29,15 @@ returns-6 : tie.Need-returns-6
 unfolding valuesText
 returns-6 c = let p = c .before .before in same (sym (ap valuesText (p .before .before .before .refusal5 .given .1))) (p .put-field .ensures)
 
+returns-7 : tie.Need-returns-7
+unfolding valuesText
+returns-7 c = let p = c .before .before in same (sym (ap valuesText (p .before .before .before .enum-told2 .given .1))) (p .put-bytes2 .ensures)
+
 pub put-values-spec : {M : Type 1} → statement M
 put-values-spec =
     tie.close
     (tie.spec
     (λ c. search needs) (λ c κs. search needs) (λ c. search needs) (λ c κs. search needs) (λ c. search needs) (λ c κs. search needs)
     (λ c. search needs) (λ c κs. search needs) (λ c. search needs) (λ c. search needs) (λ c κs. search needs) (λ c. search needs)
-    (λ c κs. search needs) (λ c. search needs) returns (λ c. search needs) returns-2 (λ c. search needs) returns-3 (λ c. search needs) returns-4
-    (λ c. search needs) returns-5 (λ c. search needs) returns-6)
+    (λ c κs. search needs) (λ c. search needs) (λ c. search needs) (λ c κs. search needs) (λ c. search needs) returns (λ c. search needs) returns-2 (λ c. search needs) returns-3 (λ c. search needs) returns-4
+    (λ c. search needs) returns-5 (λ c. search needs) returns-6 (λ c. search needs) returns-7)

@@ -24,7 +24,7 @@ unfolding formOf
 returns-2 c =
     let s = c .before .before .before in
     let a = s .before .before .before .args in
-    ap form.Fields (c .fields .ensures)
+    ap (λ (r : Record). form.Fields (record { 0 = r })) (c .fields .ensures)
     ∙ ap (λ (v : Verdict). formed v (fieldsOf (now (a .line1)) (now (a .line2)))) (sym (c .before .enum-told .given .1) ∙ s .judge-pair .ensures)
 
 pub read-form-spec : {M : Type 1} → statement M
