@@ -16,6 +16,7 @@ use text::put_line;
 use text::put_signed;
 use tle::Class;
 use tle::Designator;
+use tle::Form;
 use tle::Reading;
 use tle::Record;
 use tle::Scaled;
@@ -185,8 +186,11 @@ pub fn print_reading(reading: Reading, out: &mut [u8]) -> Printed
 pub fn print_pair(line1: &[u8], line2: &[u8], out: &mut [u8]) -> Printed
     ensures { λ a. ⌜ Prints (readingText (readOf (now (line1 .entry)) (now (line2 .entry)))) (now (out .entry)) (now (out .exit)) a ⌝ }
 {
-    let reading = tle::read(line1, line2);
-    print_reading(reading, out)
+    let form = tle::read_form(line1, line2);
+    let Form::Fields(fields) = form else {
+        return print_reading(Reading::Refused(form.refusal()), out);
+    };
+    print_reading(tle::read_meaning(fields), out)
 }
 
 pub fn kept_size(size: usize) -> usize

@@ -32,10 +32,12 @@ use satellite::DeepSpace;
 use satellite::Elements;
 use satellite::Method;
 use satellite::Model;
+use tle::Form;
 use tle::Reading;
 use tle::Record;
 use tle::legal;
-use tle::read;
+use tle::read_form;
+use tle::read_meaning;
 
 // An opened satellite: what no request changes, and the saved position.
 pub struct Satellite {
@@ -239,5 +241,9 @@ fn after_reading(reading: Reading) -> PairOpening
 pub fn open_pair(line1: &[u8], line2: &[u8]) -> PairOpening
     ensures { λ y. ⌜ y ≡ O.openPairOf (now (line1 .entry)) (now (line2 .entry)) ⌝ }
 {
-    after_reading(read(line1, line2))
+    let form = read_form(line1, line2);
+    let Form::Fields(fields) = form else {
+        return PairOpening::Unread(form.refusal());
+    };
+    after_reading(read_meaning(fields))
 }

@@ -47,7 +47,12 @@ fn print_refusal(failed: &mut bool, why: tle::Refusal)
 pub fn print_unopened(failed: &mut bool, line1: &[u8], line2: &[u8], number: u64)
     ensures { λ _. ⌜ (now (failed .entry) ≡ true → now (failed .exit) ≡ true) ⌝ }
 {
-    match tle::read(line1, line2) {
+    let form = tle::read_form(line1, line2);
+    let tle::Form::Fields(fields) = form else {
+        print_refusal(failed, form.refusal());
+        return;
+    };
+    match tle::read_meaning(fields) {
         tle::Reading::Record(_) => print_refused(failed, number),
         tle::Reading::Refused(why) => print_refusal(failed, why),
     }

@@ -14,6 +14,7 @@ use text::put_byte;
 use text::put_bytes;
 use text::put_decimal;
 use text::put_pattern;
+use tle::Form;
 use tle::Reading;
 use tle::Record;
 
@@ -135,7 +136,11 @@ fn put_opening(out: &mut [u8], at: usize, r: Record) -> usize {
 }
 
 fn put_pair(out: &mut [u8], at: usize, line1: &[u8], line2: &[u8]) -> usize {
-    match tle::read(line1, line2) {
+    let form = tle::read_form(line1, line2);
+    let Form::Fields(fields) = form else {
+        return put_refused(out, at, form.refusal().number());
+    };
+    match tle::read_meaning(fields) {
         Reading::Record(r) => put_opening(out, at, r),
         Reading::Refused(why) => put_refused(out, at, why.number()),
     }

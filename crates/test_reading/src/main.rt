@@ -5,6 +5,7 @@ use refusal_line::put_refusal;
 use text::input::Line;
 use text::input::Lines;
 use text::output::put_bytes;
+use tle::Form;
 use tle::Reading;
 
 fn put_reading(out: &mut [u8], reading: Reading) -> usize {
@@ -14,9 +15,17 @@ fn put_reading(out: &mut [u8], reading: Reading) -> usize {
     }
 }
 
+fn put_pair(out: &mut [u8], line1: &[u8], line2: &[u8]) -> usize {
+    let form = tle::read_form(line1, line2);
+    let Form::Fields(fields) = form else {
+        return put_refusal(out, 0, form.refusal());
+    };
+    put_reading(out, tle::read_meaning(fields))
+}
+
 fn print(failed: &mut bool, line1: &[u8], line2: &[u8]) {
     let mut out = [0u8; 64];
-    let size = put_reading(&mut out, tle::read(line1, line2));
+    let size = put_pair(&mut out, line1, line2);
     if size <= 64 {
         streams::print(failed, &out[0..size]);
     }

@@ -5,6 +5,7 @@
 use text::put_byte;
 use text::put_bytes;
 use text::put_decimal;
+use tle::Form;
 use tle::Line;
 use tle::Reading;
 use tle::Record;
@@ -74,7 +75,12 @@ fn print_line(failed: &mut bool, r: Record, which: Line) {
 }
 
 fn print_pair(failed: &mut bool, line1: &[u8], line2: &[u8]) {
-    match tle::read(line1, line2) {
+    let form = tle::read_form(line1, line2);
+    let Form::Fields(fields) = form else {
+        streams::print(failed, b"refused\n");
+        return;
+    };
+    match tle::read_meaning(fields) {
         Reading::Record(r) => {
             print_line(failed, r, Line::One);
             print_line(failed, r, Line::Two);
