@@ -1,0 +1,16 @@
+use Prim.Native.Nat.{_≤_, _-_}
+use borrow.Author.Needs.{needs}
+use Rattle.test_fields.proofs.print_changed.Statement.{statement}
+use Rattle.test_fields.proofs.print_changed.Tie as tie
+
+abbrev Inv-loop : tie.InvT-loop
+Inv-loop failed₀ numbers i₀ failed i = i ≤ 22
+
+abbrev μ-loop : tie.MeasureT-loop
+μ-loop failed₀ numbers i₀ failed i = 22 - i
+
+pub print-changed-spec : {M : Type 1} → statement M
+print-changed-spec =
+    tie.close
+    (tie.spec
+    Inv-loop μ-loop (λ c. search needs) (λ c κs. search needs) (λ c. search needs) (λ c. search needs) (λ c. search needs) (λ c. search needs))
