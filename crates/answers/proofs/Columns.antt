@@ -74,7 +74,7 @@ abbrev pub ReadingFits : Reading → Type 0
 ReadingFits (reading.Record r) = Unit {0}
 ReadingFits (reading.Refused why) = ColumnFits why
 
-ranges-fit : (r : Record) → ReadingFits (rangesOf r)
+pub ranges-fit : (r : Record) → ReadingFits (rangesOf r)
 unfolding rangesOf
 ranges-fit r =
     by ReadingFits (dayInRange (r .year) (r .day)) _ _ (λ h. tt)

@@ -16,7 +16,7 @@ fieldNumber Perigee = 4
 fieldNumber Anomaly = 5
 fieldNumber Motion = 6
 
--- document 01's table, refusals 1 to 6
+-- document 01's table, refusals 1 to 6; 16 is given to fields alone
 unfoldable pub refusalAnswer : Refusal → ℕ
 refusalAnswer (Length line) = answer 1 (lineNumber line) 0 0
 refusalAnswer (Start line) = answer 2 (lineNumber line) 0 0
