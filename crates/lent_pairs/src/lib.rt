@@ -23,18 +23,24 @@ use roster_calls::Lodging;
 use roster_calls::fill_row;
 use roster_calls::lodge;
 use roster_calls::withdraw;
+use tle::Form;
 use tle::Line;
 use tle::Reading;
 use tle::Record;
 use tle::epoch;
-use tle::read;
+use tle::read_form;
+use tle::read_meaning;
 use tle_writer::fill_line;
 
 // Reads a pair: 0, or the refusal with its values.
 pub fn read_answer(line1: &[u8], line2: &[u8]) -> u64
     ensures { λ r. ⌜ r ≡ P.readingAnswer (readOf (now (line1 .entry)) (now (line2 .entry))) ⌝ }
 {
-    match read(line1, line2) {
+    let form = read_form(line1, line2);
+    let Form::Fields(f) = form else {
+        return refusal_answer(form.refusal());
+    };
+    match read_meaning(f) {
         Reading::Record(_) => answer(0, 0, 0, 0),
         Reading::Refused(why) => refusal_answer(why),
     }
@@ -69,7 +75,11 @@ pub fn epoch_answer(line1: &[u8], line2: &[u8], micros: &mut u64) -> u64
     ensures { λ r. ⌜ r ≡ P.epochAnswer (readOf (now (line1 .entry)) (now (line2 .entry))) ⌝ }
     ensures { λ _. ⌜ now (micros .exit) ≡ P.epochPut (readOf (now (line1 .entry)) (now (line2 .entry))) (now (micros .entry)) ⌝ }
 {
-    match read(line1, line2) {
+    let form = read_form(line1, line2);
+    let Form::Fields(f) = form else {
+        return refusal_answer(form.refusal());
+    };
+    match read_meaning(f) {
         Reading::Record(r) => put_instant(epoch(r), micros),
         Reading::Refused(why) => refusal_answer(why),
     }
@@ -80,7 +90,11 @@ pub fn record_answer(line1: &[u8], line2: &[u8], fields: &mut [i64]) -> u64
     ensures { λ r. ⌜ r ≡ C.recordAnswer (readOf (now (line1 .entry)) (now (line2 .entry))) (length (now (fields .entry))) ⌝ }
     ensures { λ _. ⌜ now (fields .exit) ≡ C.recordFields (readOf (now (line1 .entry)) (now (line2 .entry))) (now (fields .entry)) ⌝ }
 {
-    match read(line1, line2) {
+    let form = read_form(line1, line2);
+    let Form::Fields(f) = form else {
+        return refusal_answer(form.refusal());
+    };
+    match read_meaning(f) {
         Reading::Record(r) => answer(store_record(r, fields), 0, 0, 0),
         Reading::Refused(why) => refusal_answer(why),
     }

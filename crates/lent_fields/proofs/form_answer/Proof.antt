@@ -20,7 +20,7 @@ returns c =
     let g = t .enum-told .given .1 in
     let e = sym (o .read-form .ensures) ∙ g in (
       c .refusal-answer .ensures ∙ ap (λ z. refusalAnswer (inBits z)) (u .refusal .ensures ∙ ap refusalIn g)
-      ∙ ap refusalAnswer (form-in-bits _ _ _ e) ∙ sym (ap (λ z. formAnswer z (length fields)) e),
+          ∙ ap refusalAnswer (form-in-bits _ _ _ e) ∙ sym (ap (λ z. formAnswer z (length fields)) e),
       sym (ap (λ z. formFields z fields) e),
     )
 
