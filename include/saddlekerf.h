@@ -296,6 +296,24 @@ uint64_t saddlekerf_record(const uint8_t *line1, size_t line1_length,
                            int64_t *fields, size_t fields_length);
 
 /*
+ * The form of a pair alone: its fields, in their ranges or not, which go into the first 22 elements of
+ * fields; what lies past them stays. A day may then be 0 to 999.99999999, an angle 0 to 999.9999 and
+ * the mean motion 0; every other element is as in a record.
+ * Answer: 0; 1-5 as saddlekerf_read; 17 where fields is too short.
+ */
+uint64_t saddlekerf_form(const uint8_t *line1, size_t line1_length,
+                         const uint8_t *line2, size_t line2_length,
+                         int64_t *fields, size_t fields_length);
+
+/*
+ * The meaning alone of fields, whoever wrote them: whether they are a record's.
+ * Answer: 0; 17 where fields has fewer than 22 elements; 16 for fields that no pair of lines has whose
+ * form is accepted, so never after saddlekerf_form; 6, with the field, for one out of its range.
+ * saddlekerf_form and then saddlekerf_meaning answer as saddlekerf_read does.
+ */
+uint64_t saddlekerf_meaning(const int64_t *fields, size_t fields_length);
+
+/*
  * Writes line 1 or 2 of a record: 69 bytes at the front of out, with no 0 byte after them; what lies
  * past them stays. Leading zeros are written as blanks where the layout allows it, a plus in front
  * of a number as a blank, the exponent 0 as -0, and the first two digits of a catalogue number of six

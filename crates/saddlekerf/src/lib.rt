@@ -1,17 +1,18 @@
 // The library's boundary to C and Rust: functions on numbers and slices, each a function of a crate
-// below (lent_pairs, lent_opening, lent_requests) under an exported name. A satellite lies in memory that
+// below (lent_pairs, lent_fields, lent_opening, lent_requests) under an exported name. A satellite lies in memory that
 // the caller lends (crate storage). include/saddlekerf.h has the same for C.
 ghost use mathlib.Core.Path.{_≡_};
 ghost use Prim.Native.Nat.{_%_};
 ghost use lib.ListN.{length};
 ghost use Rattle.columns.specs.Sum.{sum};
-ghost use Rattle.tle.specs.Read.{readOf};
+ghost use Rattle.tle.specs.Read.{formOf, readOf};
 ghost use Rattle.text.specs.Output.{fronted};
 ghost use Rattle.listing.specs.Listing as T;
 ghost use Rattle.opening.specs.Opening.{openPairOf};
-ghost use Rattle.record_numbers.specs.Numbers.{givenOf};
+ghost use Rattle.record_numbers.specs.Numbers.{givenOf, judgedOf};
 ghost use Rattle.roster.specs.Row.{rosterWith};
 ghost use Rattle.compare.specs.Compare.{comparedOf, comparedOver};
+ghost use Rattle.lent_fields.specs.Fields.{formAnswer, formFields, meaningAnswer};
 ghost use Rattle.lent_changes.specs.Answer.{comparedAnswer};
 ghost use Rattle.roster_calls.specs.Calls.{lodgingOf, lodgedOver, lodgedRow, withdrawalOf, withdrawnOver, withdrawnRow, fillingOf, filledRow};
 ghost use Rattle.report.specs.Report.{reportOf};
@@ -24,6 +25,8 @@ ghost use Rattle.lent_requests.specs.Requests as R;
 ghost use Rattle.saddlekerf.specs.Version.{version, boundary};
 use columns::checksum;
 use lent_changes::compare_held;
+use lent_fields::form_answer;
+use lent_fields::meaning_answer;
 use lent_opening::open_held;
 use lent_pairs::epoch_answer;
 use lent_pairs::fill_answer;
@@ -95,6 +98,23 @@ pub extern "C" fn saddlekerf_record(line1: &[u8], line2: &[u8], fields: &mut [i6
     ensures { λ _. ⌜ now (fields .exit) ≡ C.recordFields (readOf (now (line1 .entry)) (now (line2 .entry))) (now (fields .entry)) ⌝ }
 {
     record_answer(line1, line2, fields)
+}
+
+// The form of a pair alone: its fields, in range or not, as 22 whole numbers at the front of `fields`.
+#[no_mangle]
+pub extern "C" fn saddlekerf_form(line1: &[u8], line2: &[u8], fields: &mut [i64]) -> u64
+    ensures { λ r. ⌜ r ≡ formAnswer (formOf (now (line1 .entry)) (now (line2 .entry))) (length (now (fields .entry))) ⌝ }
+    ensures { λ _. ⌜ now (fields .exit) ≡ formFields (formOf (now (line1 .entry)) (now (line2 .entry))) (now (fields .entry)) ⌝ }
+{
+    form_answer(line1, line2, fields)
+}
+
+// The meaning alone of the fields whose numbers are at the front of `fields`: 0 where they are a record's.
+#[no_mangle]
+pub extern "C" fn saddlekerf_meaning(fields: &[i64]) -> u64
+    ensures { λ r. ⌜ r ≡ meaningAnswer (judgedOf (now (fields .entry))) ⌝ }
+{
+    meaning_answer(fields)
 }
 
 // Line 1 or 2 of the record whose numbers are at the front of `fields`, at the front of `out`.
