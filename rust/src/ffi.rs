@@ -72,6 +72,17 @@ mod c {
             fields_length: usize,
         ) -> u64;
 
+        pub fn saddlekerf_form(
+            line1: *const u8,
+            line1_length: usize,
+            line2: *const u8,
+            line2_length: usize,
+            fields: *mut i64,
+            fields_length: usize,
+        ) -> u64;
+
+        pub fn saddlekerf_meaning(fields: *const i64, fields_length: usize) -> u64;
+
         pub fn saddlekerf_write(
             fields: *const i64,
             fields_length: usize,
@@ -228,6 +239,25 @@ pub fn record(line1: &[u8], line2: &[u8], fields: &mut [i64]) -> u64 {
             fields.len(),
         )
     }
+}
+
+pub fn form(line1: &[u8], line2: &[u8], fields: &mut [i64]) -> u64 {
+    // SAFETY: all three are slices; `fields` is mutable, so that it overlaps neither line.
+    unsafe {
+        c::saddlekerf_form(
+            line1.as_ptr(),
+            line1.len(),
+            line2.as_ptr(),
+            line2.len(),
+            fields.as_mut_ptr(),
+            fields.len(),
+        )
+    }
+}
+
+pub fn meaning(fields: &[i64]) -> u64 {
+    // SAFETY: `fields` is a slice.
+    unsafe { c::saddlekerf_meaning(fields.as_ptr(), fields.len()) }
 }
 
 pub fn write(fields: &[i64], line: u32, out: &mut [u8]) -> u64 {

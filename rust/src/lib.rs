@@ -101,7 +101,7 @@ mod roster;
 mod satellite;
 mod time;
 
-pub use record::{Exponential, Record};
+pub use record::{Exponential, Fields, Record};
 pub use refusal::{Field, Line, Refusal};
 pub use report::{count_text, Date, Report};
 pub use roster::{changes, fill_row, lodge, withdraw, Pair, Roster, Uncompared, Which};

@@ -171,6 +171,48 @@ impl Record {
     }
 }
 
+/// What the form of a pair yields: the fields of a record, held to no range. What takes a record does
+/// not take them; [`Fields::judge`] makes the record.
+///
+/// ```
+/// use saddlekerf::{Field, Fields, Refusal};
+///
+/// let line1 = b"1 00005U 58002B   00179.78495062  .00000023  00000-0  28098-4 0  4753";
+/// let line2 = b"2 00005 934.2682 348.7242 1859667 331.7664  19.3264 10.82419157413666";
+/// // The line is well formed, the angle is impossible.
+/// let fields = Fields::read(line1, line2).unwrap();
+/// assert_eq!(fields.unjudged().inclination, 934_2682);
+/// assert_eq!(fields.judge(), Err(Refusal::Range { field: Field::Inclination }));
+/// ```
+#[derive(Clone, Copy, Debug, PartialEq, Eq, Hash)]
+pub struct Fields(Record);
+
+impl Fields {
+    /// Judges the form of a pair; or a refusal 1 to 5.
+    pub fn read(line1: &[u8], line2: &[u8]) -> Result<Fields, Refusal> {
+        let mut fields = [0; ffi::FIELDS];
+        Packed(ffi::form(line1, line2, &mut fields)).plain()?;
+        Ok(Fields(Record::of(&fields).unwrap_or_else(|| foreign(&fields))))
+    }
+
+    /// Fields to be judged, whoever gives them.
+    pub fn of(record: Record) -> Fields {
+        Fields(record)
+    }
+
+    /// The fields as they are, to be shown. No range was held to.
+    pub fn unjudged(&self) -> &Record {
+        &self.0
+    }
+
+    /// Judges their meaning: the record; or refusal 16, where no accepted form yields such fields, and
+    /// then 6 with the first field out of its range.
+    pub fn judge(self) -> Result<Record, Refusal> {
+        Packed(ffi::meaning(&self.0.fields())).plain()?;
+        Ok(self.0)
+    }
+}
+
 /// Only an archive of another header reads such a record.
 #[cold]
 fn foreign(fields: &[i64; ffi::FIELDS]) -> ! {

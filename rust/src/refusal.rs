@@ -64,7 +64,7 @@ pub enum Refusal {
     Radius,
     /// 15: a number of the state is not finite.
     StateNotFinite,
-    /// 16: a record to be written is outside layout or ranges.
+    /// 16: a record to be written is outside layout or ranges, or no accepted form yields the fields.
     Record,
     /// 17: lent room too short.
     Room,

@@ -1,6 +1,6 @@
 //! Records: read and written again, refused, and what the buffers hold afterwards.
 
-use saddlekerf::{printed, Exponential, Line, Record, Refusal};
+use saddlekerf::{printed, Exponential, Field, Fields, Line, Record, Refusal};
 
 const LINE1: &[u8] = b"1 00005U 58002B   00179.78495062  .00000023  00000-0  28098-4 0  4753";
 const LINE2: &[u8] = b"2 00005  34.2682 348.7242 1859667 331.7664  19.3264 10.82419157413667";
@@ -243,4 +243,66 @@ fn rooms() {
 fn lines_refused() {
     assert_eq!(Record::read(LINE1, LINE1), Err(Refusal::Start { line: Line::Two }));
     assert_eq!(Record::read(LINE1, b""), saddlekerf::read(LINE1, b"").map(|()| EXAMPLE));
+}
+
+/// Document 02, wish 9: form and meaning, one after the other.
+fn judged(line1: &[u8], line2: &[u8]) -> Result<Record, Refusal> {
+    Fields::read(line1, line2)?.judge()
+}
+
+/// A line with one byte changed and its checksum mended.
+fn changed(line: &[u8], column: usize, byte: u8) -> Vec<u8> {
+    let mut line = line.to_vec();
+    line[column] = byte;
+    let weight = |b: &u8| if b.is_ascii_digit() { (b - b'0') as u32 } else { (*b == b'-') as u32 };
+    line[68] = b'0' + (line[..68].iter().map(weight).sum::<u32>() % 10) as u8;
+    line
+}
+
+#[test]
+fn form_then_meaning_is_reading() {
+    assert_eq!(judged(LINE1, LINE2), Ok(EXAMPLE));
+    for column in 0..68 {
+        for byte in [b' ', b'0', b'9', b'-', b'A', b'.'] {
+            let (one, two) = (changed(LINE1, column, byte), changed(LINE2, column, byte));
+            assert_eq!(judged(&one, LINE2), Record::read(&one, LINE2));
+            assert_eq!(judged(LINE1, &two), Record::read(LINE1, &two));
+        }
+    }
+}
+
+/// Refusals 1 to 5 are the form's; a broken range is none of them.
+#[test]
+fn forms_alone() {
+    let impossible = changed(LINE2, 8, b'9');
+    let fields = Fields::read(LINE1, &impossible).unwrap();
+    assert_eq!(*fields.unjudged(), Record { inclination: 934_2682, ..EXAMPLE });
+    assert_eq!(fields.judge(), Err(Refusal::Range { field: Field::Inclination }));
+    assert_eq!(Fields::read(LINE1, &impossible[..68]), Err(Refusal::Length { line: Line::Two }));
+    let other = changed(&impossible, 6, b'6');
+    assert_eq!(Fields::read(LINE1, &other), Err(Refusal::Catalogue));
+}
+
+/// 16 comes before 6, and only for fields that no form yields.
+#[test]
+fn meanings_alone() {
+    let range = |field| Err(Refusal::Range { field });
+    let cases = [
+        (EXAMPLE, Ok(EXAMPLE)),
+        (Record { day: 0, ..EXAMPLE }, range(Field::Day)),
+        (Record { day: 999_9999_9999, ..EXAMPLE }, range(Field::Day)),
+        (Record { day: 1000_0000_0000, ..EXAMPLE }, Err(Refusal::Record)),
+        (Record { inclination: 180_0001, ..EXAMPLE }, range(Field::Inclination)),
+        (Record { node: 999_9999, motion: 0, ..EXAMPLE }, range(Field::Node)),
+        (Record { node: 1000_0000, motion: 0, ..EXAMPLE }, Err(Refusal::Record)),
+        (Record { perigee: 360_0000, ..EXAMPLE }, range(Field::Perigee)),
+        (Record { anomaly: 360_0000, ..EXAMPLE }, range(Field::Anomaly)),
+        (Record { motion: 0, ..EXAMPLE }, range(Field::Motion)),
+        (Record { motion: 100_0000_0000, ..EXAMPLE }, Err(Refusal::Record)),
+        (Record { number: 340_000, inclination: 999_9999, ..EXAMPLE }, Err(Refusal::Record)),
+        (Record { class: b'T', ..EXAMPLE }, Err(Refusal::Record)),
+    ];
+    for (record, answer) in cases {
+        assert_eq!(Fields::of(record).judge(), answer, "{record:?}");
+    }
 }
