@@ -16,9 +16,11 @@ use roster::all_zero;
 use roster::is_no_roster;
 use text::put_byte;
 use text::put_bytes;
+use tle::Form;
 use tle::Reading;
 use tle::Record;
-use tle::read;
+use tle::read_form;
+use tle::read_meaning;
 
 pub enum Which {
     First,
@@ -75,8 +77,11 @@ fn place_at(b: &[u8], i: usize) -> Place
     if all_zero(&b[at..]) {
         return Place::Empty;
     }
-    let reading = read(&b[at..half], &b[half..end]);
-    match reading {
+    let form = read_form(&b[at..half], &b[half..end]);
+    let Form::Fields(fields) = form else {
+        return Place::Empty;
+    };
+    match read_meaning(fields) {
         Reading::Record(r) => Place::Pair(r),
         Reading::Refused(_) => Place::Empty,
     }

@@ -18,7 +18,7 @@ use Rattle.tle.specs.declared.Designator.{Designator}
 use Rattle.tle.specs.declared.Designator.the-variants.{Blank, Piece}
 use Rattle.tle.specs.declared.Record.{Record}
 use Rattle.tle.specs.Read.{letter}
-use Rattle.tle_writer.proofs.Facts.{Facts, both, formed, facts}
+use Rattle.tle_writer.proofs.Facts.{Held, both, formed, legal-in-form}
 use Rattle.tle_writer.proofs.Values.{class-value}
 use Rattle.tle.proofs.Meaning.{forms-yield, gone-on}
 use Rattle.record_numbers.specs.declared.Judged.the-variants as judged
@@ -64,7 +64,7 @@ designator-back (Piece n a b c) h =
 four : (n : ℕ) {a a′ b b′ c c′ : ℕ} → a ≡ a′ → b ≡ b′ → c ≡ c′ → designatorFrom n a b c ≡ designatorFrom n a′ b′ c′
 four n q r s = λ i. designatorFrom n (q i) (r i) (s i)
 
-record-back : (r : Record) (ns : List ℤ) → Facts r → recordAt (numbersOf r ++ ns) ≡ r
+record-back : (r : Record) (ns : List ℤ) → Held r → recordAt (numbersOf r ++ ns) ≡ r
 unfolding recordAt designatorAt numbersOf whole
 record-back r ns k =
     let d = r .designator in
@@ -97,13 +97,13 @@ class-at : (r : Record) (ns : List ℤ) → isClass (byte (at (numbersOf r ++ ns
 unfolding numbersOf
 class-at r ns = ap isClass (letter-back (r .class)) ∙ class-is (r .class)
 
-given-back : (r : Record) (ns : List ℤ) → Facts r → givenOf (numbersOf r ++ ns) ≡ Fields r
+given-back : (r : Record) (ns : List ℤ) → Held r → givenOf (numbersOf r ++ ns) ≡ Fields r
 unfolding givenOf
 given-back r ns k = rw (long r ns, class-at r ns) (ap Fields (record-back r ns k))
 
 pub stored-is-given : StoredIsGiven
 unfolding storedOver storeRefusal
-stored-is-given r ns h k = rw (h, le-ltb (length ns) 22 k) (given-back r (drop 22 ns) (facts r h))
+stored-is-given r ns h k = rw (h, le-ltb (length ns) 22 k) (given-back r (drop 22 ns) (formed r (legal-in-form r h)))
 
 pub judged-as-read : JudgedAsRead
 unfolding judgedOf fieldsOver fieldsRefusal
@@ -165,7 +165,7 @@ given-by true k x r e = let z : _≡_ {A = ℕ} 0 1 = cc in absurd (omega arith)
 given-by false true x r e = (refl, refl, ap (fieldsOr r) e)
 given-by false false x r e = let z : _≡_ {A = ℕ} 0 1 = cc in absurd (omega arith)
 
-numbers-back : (ns : List ℤ) → isClass (byte (at ns 1)) ≡ true → Facts (recordAt ns) → Small (recordAt ns) → from 0 22 ns ≡ numbersOf (recordAt ns)
+numbers-back : (ns : List ℤ) → isClass (byte (at ns 1)) ≡ true → Held (recordAt ns) → Small (recordAt ns) → from 0 22 ns ≡ numbersOf (recordAt ns)
 unfolding recordAt designatorAt numbersOf
 numbers-back ns c f k =
     let d = placed (whole (at ns 2)) (byte (at ns 3)) (byte (at ns 4)) (byte (at ns 5)) in
@@ -200,4 +200,4 @@ unfolding givenOf
 given-is-stored r ns e h =
     let g = given-by (ltb (length ns) 22) (isClass (byte (at ns 1))) (recordAt ns) r e in
     let l = rw (← g .2) at h in
-    taken-from 0 22 ns (omega (arith, ltb-false (length ns) 22 (g .0))) ∙ numbers-back ns (g .1) (facts (recordAt ns) l) (small (recordAt ns) l) ∙ ap numbersOf (g .2)
+    taken-from 0 22 ns (omega (arith, ltb-false (length ns) 22 (g .0))) ∙ numbers-back ns (g .1) (formed (recordAt ns) (legal-in-form (recordAt ns) l)) (small (recordAt ns) l) ∙ ap numbersOf (g .2)

@@ -9,9 +9,11 @@ use lib.ListN.{length}
 use borrow.Author.Tests.{lt-ltb, eq-eqb, ne-eqb, ltb-false}
 use Rattle.tle.specs.declared.Record as tle
 use Rattle.tle.specs.declared.Refusal.{Refusal}
-use Rattle.tle.specs.declared.Refusal.the-variants.{Length, Start, Column, Checksum, Numbers, Range}
+use Rattle.tle.specs.declared.Refusal.the-variants.{Length, Start, Column, Checksum, Numbers, Range, NoForm}
+use Rattle.tle.specs.Refusals.{numberOf}
 use Rattle.tle.specs.declared.Reading.{Reading}
 use Rattle.tle.specs.declared.Reading.the-variants.{Record, Refused}
+use Rattle.tle.proofs.Meaning.{read-refusals}
 use Rattle.report.specs.declared.Stamp.{Stamp}
 use Rattle.report.specs.declared.Kind.{Kind}
 use Rattle.report.specs.declared.Kind.the-variants.{Near, Deep, Unopened}
@@ -200,15 +202,17 @@ sum r = R.one (isAccepted r)
     + (R.one (isRefused 1 r) + (R.one (isRefused 2 r) + (R.one (isRefused 3 r)
     + (R.one (isRefused 4 r) + (R.one (isRefused 5 r) + R.one (isRefused 6 r))))))
 
-one-heading : (r : Reading) → sum r ≡ 1
+-- of a reading that is refused with 1 to 6 alone
+one-heading : (r : Reading) → ((why : Refusal) → r ≡ Refused why → numberOf why ≤ 6) → sum r ≡ 1
 unfolding isAccepted isRefused
-one-heading (Record r) = refl
-one-heading (Refused (Length l)) = refl
-one-heading (Refused (Start l)) = refl
-one-heading (Refused (Column l k)) = refl
-one-heading (Refused (Checksum l)) = refl
-one-heading (Refused Numbers) = refl
-one-heading (Refused (Range f)) = refl
+one-heading (Record r) h = refl
+one-heading (Refused (Length l)) h = refl
+one-heading (Refused (Start l)) h = refl
+one-heading (Refused (Column l k)) h = refl
+one-heading (Refused (Checksum l)) h = refl
+one-heading (Refused Numbers) h = refl
+one-heading (Refused (Range f)) h = refl
+one-heading (Refused NoForm) h = absurd (omega (arith, h NoForm refl))
 
 kind-heading : (k : Kind) → R.one (isNear k) + (R.one (isDeep k) + R.one (isUnopened k)) ≡ 1
 unfolding isNear isDeep isUnopened
@@ -227,6 +231,6 @@ adds-up [] = record { all = refl; opened = refl }
 adds-up (p ∷ pairs) =
     let r = adds-up pairs in
     record {
-      all = omega (arith, r .all, one-heading (readingOf p));
+      all = omega (arith, r .all, one-heading (readingOf p) (read-refusals (p .first) (p .second)));
       opened = omega (arith, r .opened, open-heading (readingOf p));
     }

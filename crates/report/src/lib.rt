@@ -14,10 +14,12 @@ use lent_opening::open_record;
 use listing::kept_size;
 use text::Line;
 use text::Lines;
+use tle::Form;
 use tle::Reading;
 use tle::Record;
 use tle::epoch;
-use tle::read;
+use tle::read_form;
+use tle::read_meaning;
 
 // An accepted record's epoch: its year and day, as the record has them, and its instant.
 pub struct Stamp {
@@ -255,7 +257,11 @@ fn with_reading(t: Tally, reading: Reading) -> Tally
 fn tallied(t: Tally, line1: &[u8], line2: &[u8]) -> Tally
     ensures { λ x. ⌜ x ≡ S.tallied t (now (line1 .entry)) (now (line2 .entry)) ⌝ }
 {
-    with_reading(t, read(line1, line2))
+    let form = read_form(line1, line2);
+    let Form::Fields(fields) = form else {
+        return with_reading(t, Reading::Refused(form.refusal()));
+    };
+    with_reading(t, read_meaning(fields))
 }
 
 fn with_pair(count: Count, line1: &[u8], line2: &[u8]) -> Count

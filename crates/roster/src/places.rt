@@ -5,10 +5,12 @@ ghost use mathlib.Core.Bool.{true};
 ghost use lib.ListN.{length};
 ghost use Rattle.tle.specs.Legal.{legal};
 ghost use Rattle.roster.specs.Roster.{allZero, same, pairBytes, pairOver, placeOf};
+use tle::Form;
 use tle::Line;
 use tle::Reading;
 use tle::Record;
-use tle::read;
+use tle::read_form;
+use tle::read_meaning;
 use tle_writer::fill_line;
 
 // What a place that is not all zeros holds.
@@ -62,7 +64,11 @@ pub(crate) fn place_at(p: &[u8]) -> Place
     requires { ⌜ length (now p) ≡ 138 ⌝ }
     ensures { λ r. ⌜ r ≡ placeOf (now (p .entry)) ⌝ }
 {
-    let reading = read(&p[0..69], &p[69..138]);
+    let form = read_form(&p[0..69], &p[69..138]);
+    let Form::Fields(fields) = form else {
+        return Place::Damaged;
+    };
+    let reading = read_meaning(fields);
     let Reading::Record(record) = reading else {
         return Place::Damaged;
     };

@@ -18,10 +18,12 @@ use roster::scan_buffer;
 use rows::close_row;
 use rows::open_row;
 use rows::store_row;
+use tle::Form;
 use tle::Reading;
 use tle::Record;
 use tle::Refusal;
-use tle::read;
+use tle::read_form;
+use tle::read_meaning;
 
 mod gaps;
 mod rows;
@@ -136,8 +138,11 @@ fn lodge_record(roster: &mut [u8], row: &mut [u64], r: Record) -> Lodging
 pub fn lodge(roster: &mut [u8], row: &mut [u64], line1: &[u8], line2: &[u8]) -> Lodging
     ensures { λ a. ⌜ (a ≡ lodgingOf (now (roster .entry)) (now (row .entry)) (now (line1 .entry)) (now (line2 .entry))) × (now (roster .exit) ≡ lodgedOver (now (roster .entry)) (now (row .entry)) (now (line1 .entry)) (now (line2 .entry))) × (now (row .exit) ≡ lodgedRow (now (roster .entry)) (now (row .entry)) (now (line1 .entry)) (now (line2 .entry))) ⌝ }
 {
-    let reading = read(line1, line2);
-    match reading {
+    let form = read_form(line1, line2);
+    let Form::Fields(fields) = form else {
+        return Lodging::Unread(form.refusal());
+    };
+    match read_meaning(fields) {
         Reading::Refused(why) => Lodging::Unread(why),
         Reading::Record(r) => lodge_record(roster, row, r),
     }

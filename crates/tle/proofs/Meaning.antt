@@ -12,7 +12,7 @@ use Rattle.columns.specs.Sum.{digitOf}
 use Rattle.tle.specs.Legal.{inclinationInRange, angleInRange, motionInRange, inForm}
 use Rattle.tle.specs.Refusals.{numberOf}
 use Rattle.tle.specs.Read.{unless, then, checksumOf, verdictOf, numberAt, pairOf, fieldsOf, formed, formOf, rangesOf, meaningOf, refusalIn, meant, ranged, readOf}
-use Rattle.tle.specs.Claims.{FormThenMeaning, FormRefusals, FormsYield, NeverSixteen}
+use Rattle.tle.specs.Claims.{FormThenMeaning, FormRefusals, FormsYield, NeverSixteen, ReadRefusals}
 use Rattle.tle.specs.declared.Record.{Record}
 use Rattle.tle.specs.declared.Fields.{Fields}
 use Rattle.tle.specs.declared.Line.{Line}
@@ -65,9 +65,12 @@ few : (v : Verdict) (r : Record) → Few v → FewOf (formed v r)
 few verdict.Lawful r h = tt
 few (verdict.Refused why) r h = h
 
-pub form-refusals : FormRefusals
+form-few : (line1 line2 : List ℕ) → FewOf (formOf line1 line2)
 unfolding formOf
-form-refusals line1 line2 why e = subst FewOf e (few (pairOf line1 line2) (fieldsOf line1 line2) (pair-few line1 line2))
+form-few line1 line2 = few (pairOf line1 line2) (fieldsOf line1 line2) (pair-few line1 line2)
+
+pub form-refusals : FormRefusals
+form-refusals line1 line2 why e = subst FewOf e (form-few line1 line2)
 
 -- ── the fields that a form yields ──
 
@@ -120,6 +123,14 @@ ranges-other r =
     (either Other (angleInRange (r .perigee)) _ _ (omega arith)
     (either Other (angleInRange (r .anomaly)) _ _ (omega arith)
     (either Other (motionInRange (r .motion)) _ _ (omega arith) tt)))))
+
+ranged-other : (f : Form) → FewOf f → Other (ranged f)
+ranged-other (form.Fields f) h = ranges-other (f .0)
+ranged-other (form.Refused why) h = omega (arith, h)
+
+pub read-refusals : ReadRefusals
+unfolding readOf
+read-refusals line1 line2 why e = subst Other e (ranged-other (formOf line1 line2) (form-few line1 line2))
 
 pub never-sixteen : NeverSixteen
 unfolding meaningOf

@@ -58,6 +58,10 @@ FormsYield = (line1 line2 : List ℕ) (f : Fields) → formOf line1 line2 ≡ fo
 abbrev pub NeverSixteen : Type 0
 NeverSixteen = (line1 line2 : List ℕ) (f : Fields) → formOf line1 line2 ≡ form.Fields f → meaningOf f ≡ reading.Refused NoForm → ⊥
 
+-- and one after the other they refuse with 1 to 6 alone
+abbrev pub ReadRefusals : Type 0
+ReadRefusals = (line1 line2 : List ℕ) (why : Refusal) → readOf line1 line2 ≡ reading.Refused why → numberOf why ≤ 6
+
 -- the epoch of a legal record is an instant inside 1957-2056
 abbrev pub EpochsInside : Type 0
 EpochsInside = (r : Record) → legal r ≡ true → epochOf (r .year) (r .day) ≡ epoch.At (record { 0 = epochMicros (r .year) (r .day) })

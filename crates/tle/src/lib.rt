@@ -12,7 +12,6 @@ mod reader;
 
 pub use limits::in_form;
 pub use limits::legal;
-pub use reader::read;
 pub use reader::read_form;
 pub use reader::read_meaning;
 

@@ -5,7 +5,8 @@ ghost use mathlib.Core.Path.{_≡_};
 ghost use lib.ListN.{length};
 ghost use Prim.Native.Nat.{_+_, _^_, _≤_, _<_};
 ghost use Rattle.tle.specs.Number.{valueOn, field, signed};
-ghost use Rattle.tle.specs.Read.{verdictOf, numberAt, pairOf, designatorAt, yearOf, ndotAt, scaledAt, degreesAt, dayAt, motionAt, fieldsOf, formOf, rangesOf, meaningOf, readOf};
+ghost use Rattle.tle.specs.declared.Verdict.the-variants as verdict;
+ghost use Rattle.tle.specs.Read.{verdictOf, numberAt, pairOf, designatorAt, yearOf, ndotAt, scaledAt, degreesAt, dayAt, motionAt, fieldsOf, formed, formOf, rangesOf, meaningOf};
 use super::Class;
 use super::Designator;
 use super::Field;
@@ -212,6 +213,13 @@ fn fields(line1: &[u8], line2: &[u8]) -> Record
     }
 }
 
+// What a lawful pair yields: its fields, in their ranges or not.
+fn yielded(r: Record) -> Form
+    ensures { λ f. ⌜ f ≡ formed verdict.Lawful r ⌝ }
+{
+    Form::Fields(Fields(r))
+}
+
 // The form of two lines, of any bytes and any lengths: refusals 1 to 5, or the fields.
 pub fn read_form(line1: &[u8], line2: &[u8]) -> Form
     ensures { λ r. ⌜ r ≡ formOf (now (line1 .entry)) (now (line2 .entry)) ⌝ }
@@ -219,7 +227,7 @@ pub fn read_form(line1: &[u8], line2: &[u8]) -> Form
     let verdict = judge_pair(line1, line2);
     match verdict {
         Verdict::Refused(refusal) => Form::Refused(refusal),
-        Verdict::Lawful => Form::Fields(Fields(fields(line1, line2))),
+        Verdict::Lawful => yielded(fields(line1, line2)),
     }
 }
 
@@ -258,15 +266,4 @@ pub fn read_meaning(fields: Fields) -> Reading
         return Reading::Refused(Refusal::NoForm);
     }
     judge_ranges(r)
-}
-
-// Reads the two lines of a set, of any bytes and any lengths.
-pub fn read(line1: &[u8], line2: &[u8]) -> Reading
-    ensures { λ r. ⌜ r ≡ readOf (now (line1 .entry)) (now (line2 .entry)) ⌝ }
-{
-    let form = read_form(line1, line2);
-    let Form::Fields(fields) = form else {
-        return Reading::Refused(form.refusal());
-    };
-    read_meaning(fields)
 }

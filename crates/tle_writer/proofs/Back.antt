@@ -18,7 +18,7 @@ use Rattle.tle.specs.declared.Line.the-variants.{One, Two}
 use Rattle.tle_writer.specs.Field.{place, lead, digits, numberPlaces, right, dayPlaces, fraction, scaled, designator}
 use Rattle.tle_writer.specs.Lines.{join, bodyOf, closedOf, lineOf}
 use Rattle.tle_writer.proofs.Bodies.{zero-of, launch-of, first-of, second-of, third-of, places}
-use Rattle.tle_writer.proofs.Facts.{Facts, both}
+use Rattle.tle_writer.proofs.Facts.{Held, both}
 use Rattle.tle_writer.proofs.Values.{digits-value, right-value, degrees-value, motion-value, day-value, year-value, class-value, written-value, mantissa-value, exponent-value}
 use Rattle.tle_writer.proofs.Numbers.{numbers-read-back}
 
@@ -63,7 +63,7 @@ designator-value Blank h = refl
 designator-value (Piece n a b c) h =
     rw (no-blank (eqb (n / 10 / 10 / 10 / 10) 0) (n / 10 / 10 / 10 / 10) refl, digits-value 5 n (launch-below n a b c h))
 
-flat : (r : Record) → Facts r → fieldsOf (with1 (marks (r .designator)) r) (lineOf Two r) ≡ r
+flat : (r : Record) → Held r → fieldsOf (with1 (marks (r .designator)) r) (lineOf Two r) ≡ r
 unfolding fieldsOf numberAt designatorAt ndotAt scaledAt dayAt motionAt degreesAt lineOf bodyOf closedOf join lead
 flat r k = λ i. record {
   number = numbers-read-back (r .number) (k .number) i;
@@ -91,5 +91,5 @@ flat r k = λ i. record {
   revolution = right-value 4 (r .revolution) (k .revolution) i;
 }
 
-pub fields-back : (r : Record) → Facts r → fieldsOf (lineOf One r) (lineOf Two r) ≡ r
+pub fields-back : (r : Record) → Held r → fieldsOf (lineOf One r) (lineOf Two r) ≡ r
 fields-back r k = ap (λ (l : List ℕ). fieldsOf l (lineOf Two r)) (line1 r) ∙ flat r k

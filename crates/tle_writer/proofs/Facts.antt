@@ -1,4 +1,4 @@
--- What `inForm` says of each field; a legal record is in form.
+-- What `inForm` says of each field, and what `legal` does; a legal record is in form.
 use Prim.Native.Nat.{ℕ, _<_, _≤_, _^_}
 use mathlib.Core.Path.{_≡_, refl}
 use mathlib.Core.Bool.{Bool, true, false, _&&_}
@@ -12,7 +12,8 @@ use Rattle.instant.proofs.Calendar.{day-bounds}
 use Rattle.tle.specs.Legal.{legal, inLayout, inPlaces, inForm, inRanges, designatorFits, scaledFits}
 use Rattle.tle.specs.declared.Record.{Record}
 
-pub record Facts (r : Record) : Type 0 where
+-- what columns hold of each field, its range left out
+pub record Held (r : Record) : Type 0 where
   pub number : r .number < 340000
   pub designator : designatorFits (r .designator) ≡ true
   pub yearLow : 1957 ≤ r .year
@@ -51,7 +52,7 @@ each a (b ∷ bs) h =
     let s = both a b (t .0) in
     (s .0, (s .1, t .1))
 
-pub formed : (r : Record) → inForm r ≡ true → Facts r
+pub formed : (r : Record) → inForm r ≡ true → Held r
 unfolding inForm inLayout inPlaces
 formed r h =
     let t = both (inLayout r) (inPlaces r) h in
@@ -123,5 +124,49 @@ legal-in-form r h =
     let t = both (inLayout r) (inRanges r) h in
     rw (t .0) (in-places r (ranges r (t .1)))
 
+-- a legal record: what columns hold, and the ranges
+pub record Facts (r : Record) : Type 0 where
+  pub number : r .number < 340000
+  pub designator : designatorFits (r .designator) ≡ true
+  pub yearLow : 1957 ≤ r .year
+  pub yearHigh : r .year ≤ 2056
+  pub ndot : natAbs (r .ndot) < 10 ^ 8
+  pub nddot : scaledFits (r .nddot) ≡ true
+  pub bstar : scaledFits (r .bstar) ≡ true
+  pub ephemeris : r .ephemeris < 10 ^ 1
+  pub element : r .element < 10 ^ 4
+  pub eccentricity : r .eccentricity < 10 ^ 7
+  pub motion : r .motion < 10 ^ 10
+  pub revolution : r .revolution < 10 ^ 5
+  pub day : dayInRange (r .year) (r .day) ≡ true
+  pub inclination : r .inclination ≤ 1800000
+  pub node : r .node < 3600000
+  pub perigee : r .perigee < 3600000
+  pub anomaly : r .anomaly < 3600000
+  pub turns : 0 < r .motion
+
 pub facts : (r : Record) → legal r ≡ true → Facts r
-facts r h = formed r (legal-in-form r h)
+unfolding legal
+facts r h =
+    let k = formed r (legal-in-form r h) in
+    let g = ranges r (both (inLayout r) (inRanges r) h .1) in
+    record {
+      number = k .number;
+      designator = k .designator;
+      yearLow = k .yearLow;
+      yearHigh = k .yearHigh;
+      ndot = k .ndot;
+      nddot = k .nddot;
+      bstar = k .bstar;
+      ephemeris = k .ephemeris;
+      element = k .element;
+      eccentricity = k .eccentricity;
+      motion = k .motion;
+      revolution = k .revolution;
+      day = g .day;
+      inclination = leb-true _ _ (g .inclination);
+      node = ltb-true _ _ (g .node);
+      perigee = ltb-true _ _ (g .perigee);
+      anomaly = ltb-true _ _ (g .anomaly);
+      turns = ltb-true _ _ (g .motion);
+    }

@@ -31,7 +31,7 @@ use Rattle.tle_writer.specs.Lines.{join, pieces1, pieces2, bodyOf, close
 use Rattle.tle_writer.specs.Claims.{WrittenAreLawful, FormsExactly, MeaningExactly, ReturnTrip}
 use Rattle.tle_writer.proofs.Bodies.{places}
 use Rattle.tle_writer.proofs.Writes.{length-line}
-use Rattle.tle_writer.proofs.Facts.{Facts, both, formed, facts, ranges, legal-in-form}
+use Rattle.tle_writer.proofs.Facts.{Held, both, formed, ranges, legal-in-form}
 use Rattle.tle_writer.proofs.Values.{place-value}
 use Rattle.tle_writer.proofs.Back.{fields-back}
 use Rattle.tle_writer.proofs.Keeps.{Field, end, _then_, _⊳_, none, blank, keeps-agreed, alls, leads, digits-keep, number-keeps, right-keep, pointed-keep, day-keeps, fraction-keeps, scaled-keeps, letter-keeps, designator-keeps}
@@ -43,7 +43,7 @@ start2 : Field (bytes "2 ") (bytes "2 ")
 start2 a = refl then refl then end
 
 -- each line keeps its layout, field by field
-keeps1 : (r : Record) → Facts r → Field layout1 (lineOf One r)
+keeps1 : (r : Record) → Held r → Field layout1 (lineOf One r)
 unfolding lineOf closedOf bodyOf join alls leads
 keeps1 r k =
     (start1 ⊳ number-keeps (r .number) (k .number) ⊳ letter-keeps (r .class)
@@ -55,7 +55,7 @@ keeps1 r k =
     ⊳ blank ⊳ digits-keep 1 (r .ephemeris) ⊳ blank ⊳ right-keep 3 (r .element) ⊳ none)
     ⊳ digits-keep 1 (sum (bodyOf One r) % 10)
 
-keeps2 : (r : Record) → Facts r → Field layout2 (lineOf Two r)
+keeps2 : (r : Record) → Held r → Field layout2 (lineOf Two r)
 unfolding lineOf closedOf bodyOf join alls leads
 keeps2 r k =
     (start2 ⊳ number-keeps (r .number) (k .number)
@@ -68,13 +68,13 @@ keeps2 r k =
     ⊳ right-keep 4 (r .revolution) ⊳ none)
     ⊳ digits-keep 1 (sum (bodyOf Two r) % 10)
 
-agreed-all : (which : Line) (r : Record) → Facts r → agreed (layoutOf which) true (lineOf which r) ≡ 69
+agreed-all : (which : Line) (r : Record) → Held r → agreed (layoutOf which) true (lineOf which r) ≡ 69
 agreed-all One r k = keeps-agreed (keeps1 r k true)
 agreed-all Two r k = keeps-agreed (keeps2 r k true)
 
 pub lawful : WrittenAreLawful
-lawful One r h = (length-line One r, agreed-all One r (facts r h))
-lawful Two r h = (length-line Two r, agreed-all Two r (facts r h))
+lawful One r h = (length-line One r, agreed-all One r (formed r (legal-in-form r h)))
+lawful Two r h = (length-line Two r, agreed-all Two r (formed r (legal-in-form r h)))
 
 length-body : (which : Line) (r : Record) → length (bodyOf which r) ≡ 68
 unfolding bodyOf join lead
@@ -98,7 +98,7 @@ module _ (body : List ℕ) (h : length body ≡ 68) where
       eq-eqb _ _ (ap (λ (l : List ℕ). sum l % 10) before ∙ sym (ap digitOf last ∙ place-value _ 48 (sum body % 10) refl refl ∙ e))
 
 -- a line written and judged has no fault in any column, and its checksum is right
-pub judged : (which : Line) (r : Record) → Facts r → verdictOf which (layoutOf which) (lineOf which r) ≡ verdict.Lawful
+pub judged : (which : Line) (r : Record) → Held r → verdictOf which (layoutOf which) (lineOf which r) ≡ verdict.Lawful
 unfolding verdictOf lineOf
 judged which r k =
     rw (length-line which r, agreed-all which r k, checks (bodyOf which r) (length-body which r))
@@ -108,7 +108,7 @@ numbers : (r : Record) → numberAt (lineOf One r) ≡ numberAt (lineOf Two r)
 unfolding numberAt lineOf closedOf bodyOf join lead
 numbers r = refl
 
-pub pair-lawful : (r : Record) → Facts r → pairOf (lineOf One r) (lineOf Two r) ≡ verdict.Lawful
+pub pair-lawful : (r : Record) → Held r → pairOf (lineOf One r) (lineOf Two r) ≡ verdict.Lawful
 unfolding pairOf
 pair-lawful r k = rw (judged One r k, judged Two r k, eq-eqb (numberAt (lineOf One r)) (numberAt (lineOf Two r)) (numbers r))
 

@@ -1,5 +1,6 @@
 use Rattle.report.specs.State as S
 use mathlib.Core.Path.{ap, _∙_}
+use Rattle.tle.proofs.Meaning.{passed-up, gone-on}
 use Rattle.report.specs.State.{tallied}
 use borrow.Author.Needs.{needs}
 use Rattle.report.proofs.tallied.Statement.{statement}
@@ -7,7 +8,23 @@ use Rattle.report.proofs.tallied.Tie as tie
 
 returns : tie.Need-returns
 unfolding tallied
-returns c = c .with-reading .ensures ∙ ap (S.withReading _) (c .before .read .ensures)
+returns c =
+    let u = c .before in
+    let t = u .before in
+    c .with-reading .ensures
+    ∙ ap (S.withReading _) (passed-up _ _ (t .before .before .read-form .ensures) (t .enum-told .given .1) (u .refusal .ensures))
+
+returns-2 : tie.Need-returns-2
+unfolding tallied
+returns-2 c =
+    let m = c .before in
+    let f = m .before .before in
+    c .with-reading2 .ensures
+    ∙ ap (S.withReading _) (gone-on _ _ (f .before .before .read-form .ensures) (f .form .given .1) (m .read-meaning .ensures))
 
 pub tallied-spec : {M : Type 1} → statement M
-tallied-spec = tie.close (tie.spec (λ c κs. search needs) (λ c κs. search needs) returns)
+tallied-spec =
+    tie.close
+    (tie.spec
+    (λ c κs. search needs) (λ c. search needs) (λ c. search needs) (λ c κs. search needs) (λ c κs. search needs) returns
+    (λ c κs. search needs) (λ c κs. search needs) returns-2)
