@@ -1,14 +1,21 @@
 // A refusal of reading as a line of text: `refused`, the number, and what comes back with it, which is
-// a line, a line and a column, or a field.
+// a line, a line and a column, or a field. What an owner is told of two lines: their form first, then
+// what their fields mean.
 ghost use mathlib.Core.Path.{_≡_};
 ghost use Rattle.text.specs.Output.{Put};
 ghost use Rattle.refusal_line.specs.Refusal.{fieldText, lineText, placeText, valuesText, refusalText};
+ghost use Rattle.refusal_line.specs.Judged.{meaningText, judgedText};
+ghost use Rattle.tle.specs.Read.{formOf};
 use text::put_byte;
 use text::put_bytes;
 use text::put_decimal;
 use tle::Field;
+use tle::Form;
 use tle::Line;
+use tle::Reading;
 use tle::Refusal;
+use tle::read_form;
+use tle::read_meaning;
 
 fn put_field(out: &mut [u8], at: usize, field: Field) -> usize
     ensures { λ r. ⌜ Put (now (out .entry)) at (fieldText field) (now (out .exit)) r ⌝ }
@@ -68,4 +75,25 @@ pub fn put_refusal(out: &mut [u8], at: usize, refusal: Refusal) -> usize
     let p = put_decimal(out, p, number);
     let p = put_values(out, p, refusal);
     put_byte(out, p, b'\n')
+}
+
+fn put_meaning(out: &mut [u8], at: usize, reading: Reading) -> usize
+    ensures { λ r. ⌜ Put (now (out .entry)) at (meaningText reading) (now (out .exit)) r ⌝ }
+{
+    match reading {
+        Reading::Record(_) => put_bytes(out, at, b"in range\n"),
+        Reading::Refused(why) => put_refusal(out, at, why),
+    }
+}
+
+// The form's refusal, or `well formed` and then the meaning's, or `in range`.
+pub fn put_judged(out: &mut [u8], at: usize, line1: &[u8], line2: &[u8]) -> usize
+    ensures { λ r. ⌜ Put (now (out .entry)) at (judgedText (formOf (now (line1 .entry)) (now (line2 .entry)))) (now (out .exit)) r ⌝ }
+{
+    let form = read_form(line1, line2);
+    let Form::Fields(fields) = form else {
+        return put_refusal(out, at, form.refusal());
+    };
+    let p = put_bytes(out, at, b"well formed\n");
+    put_meaning(out, p, read_meaning(fields))
 }
