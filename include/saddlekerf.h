@@ -145,7 +145,8 @@ enum saddlekerf_refusal_number {
     SADDLEKERF_SEMI_LATUS_RECTUM = 13,    /* semi-latus rectum < 0 */
     SADDLEKERF_RADIUS = 14,               /* radius below one Earth radius */
     SADDLEKERF_STATE_NOT_FINITE = 15,     /* a number of the state is not finite */
-    SADDLEKERF_RECORD = 16,               /* a record to be written is outside layout or ranges */
+    SADDLEKERF_RECORD = 16,               /* a record to be written is outside layout or ranges, or no pair
+                                             whose form is accepted has the fields */
     SADDLEKERF_ROOM = 17,                 /* lent memory too short */
     SADDLEKERF_LIST = 18,                 /* a list of more than 1,024 times */
     SADDLEKERF_FULL = 19,                 /* all 64 places of the roster hold other numbers */
@@ -168,7 +169,7 @@ enum saddlekerf_field_number {
 };
 
 /*
- * The numbers of a record: each field a whole number in its last decimal place.
+ * The numbers of a record: each field a whole number in its last decimal place, whose unit is named.
  * A blank designator has the launch 0 and three blanks. The catalogue number is a plain number; in a
  * line its first place is a digit or, standing for 10 to 33, a letter A-Z without I and O (Alpha-5):
  * A0000 is 100000, Z9999 is 339999. The day is one that the year has: a common year ends at day
@@ -179,23 +180,26 @@ enum saddlekerf_record_field {
     SADDLEKERF_RECORD_CLASS = 1,          /* the byte 'U', 'C' or 'S' */
     SADDLEKERF_RECORD_LAUNCH = 2,         /* designator: launch year and number, five digits, 58002 */
     SADDLEKERF_RECORD_PIECE = 3,          /* designator: three bytes (3, 4, 5), 'A' to 'Z', then ' ' */
-    SADDLEKERF_RECORD_YEAR = 6,           /* 1957 to 2056 */
-    SADDLEKERF_RECORD_DAY = 7,            /* day of the year, 1E-8 days: 1 January, 0h, is 100000000; to */
+    SADDLEKERF_RECORD_YEAR = 6,           /* epoch: year, 1957 to 2056 */
+    SADDLEKERF_RECORD_DAY = 7,            /* epoch: day of the year, 1E-8 days: 1 January, 0h, is 100000000; to */
                                           /* 36599999999, in a year that 4 divides to 36699999999 */
-    SADDLEKERF_RECORD_NDOT = 8,           /* half the first derivative of mean motion, 1E-8 rev/day^2 */
-    SADDLEKERF_RECORD_NDDOT = 9,          /* a sixth of the second: mantissa, point before five digits */
+    SADDLEKERF_RECORD_NDOT = 8,           /* half the first derivative of mean motion, 1E-8 rev/day^2, */
+                                          /* -99999999 to 99999999 */
+    SADDLEKERF_RECORD_NDDOT = 9,          /* a sixth of the second: mantissa, 1E-5 times the power of ten, */
+                                          /* rev/day^3, -99999 to 99999 */
     SADDLEKERF_RECORD_NDDOT_EXPONENT = 10,/* its power of ten, -9 to 9; 0 where the mantissa is 0 */
-    SADDLEKERF_RECORD_BSTAR = 11,         /* B*: mantissa, point before five digits */
+    SADDLEKERF_RECORD_BSTAR = 11,         /* B*: mantissa, 1E-5 times the power of ten, per Earth radius, */
+                                          /* -99999 to 99999 */
     SADDLEKERF_RECORD_BSTAR_EXPONENT = 12,/* its power of ten, -9 to 9; 0 where the mantissa is 0 */
-    SADDLEKERF_RECORD_TYPE = 13,          /* ephemeris type, 0 to 9 */
-    SADDLEKERF_RECORD_SET = 14,           /* element number, 0 to 9999 */
+    SADDLEKERF_RECORD_TYPE = 13,          /* ephemeris type, a digit, 0 to 9 */
+    SADDLEKERF_RECORD_SET = 14,           /* element set number, 0 to 9999 */
     SADDLEKERF_RECORD_INCLINATION = 15,   /* 1E-4 degrees, at most 1800000 */
-    SADDLEKERF_RECORD_NODE = 16,          /* 1E-4 degrees, below 3600000 */
-    SADDLEKERF_RECORD_ECCENTRICITY = 17,  /* 1E-7, at most 9999999 */
-    SADDLEKERF_RECORD_PERIGEE = 18,       /* 1E-4 degrees, below 3600000 */
-    SADDLEKERF_RECORD_ANOMALY = 19,       /* 1E-4 degrees, below 3600000 */
-    SADDLEKERF_RECORD_MOTION = 20,        /* 1E-8 revolutions a day, 1 to 9999999999 */
-    SADDLEKERF_RECORD_REVOLUTION = 21     /* 0 to 99999 */
+    SADDLEKERF_RECORD_NODE = 16,          /* right ascension of the node, 1E-4 degrees, below 3600000 */
+    SADDLEKERF_RECORD_ECCENTRICITY = 17,  /* 1E-7, a pure number, at most 9999999 */
+    SADDLEKERF_RECORD_PERIGEE = 18,       /* argument of perigee, 1E-4 degrees, below 3600000 */
+    SADDLEKERF_RECORD_ANOMALY = 19,       /* mean anomaly, 1E-4 degrees, below 3600000 */
+    SADDLEKERF_RECORD_MOTION = 20,        /* mean motion, 1E-8 revolutions a day, 1 to 9999999999 */
+    SADDLEKERF_RECORD_REVOLUTION = 21     /* revolutions at epoch, 0 to 99999 */
 };
 
 /*

@@ -202,6 +202,74 @@ static void read_record(void)
     CHECK(fields[SADDLEKERF_RECORD_MOTION] == 1082419157);
 }
 
+/* The form of a pair alone: an impossible angle is no matter of it. A refused call writes nothing. */
+static void judge_form(void)
+{
+    const uint8_t *impossible;
+    int64_t fields[SADDLEKERF_FIELDS + 1];
+    uint64_t a;
+
+    memset(fields, 0x55, sizeof fields);
+    fields[SADDLEKERF_FIELDS] = -77;
+    a = saddlekerf_form(bytes(LINE1), LENGTH, bytes(line2_with(12, ",")), LENGTH, fields, SADDLEKERF_FIELDS);
+    CHECK(a == (SADDLEKERF_COLUMN | 2 << 8 | 12 << 16));
+    a = saddlekerf_form(bytes(LINE1), LENGTH, bytes(LINE2), LENGTH - 1, fields, SADDLEKERF_FIELDS);
+    CHECK(a == (SADDLEKERF_LENGTH | 2 << 8));
+    CHECK(saddlekerf_form(bytes(LINE1), LENGTH, bytes(line2_with(3, "A")), LENGTH, fields, SADDLEKERF_FIELDS) ==
+          SADDLEKERF_CATALOGUE);
+    CHECK(saddlekerf_form(bytes(LINE1), LENGTH, bytes(LINE2), LENGTH, fields, SADDLEKERF_FIELDS - 1) ==
+          SADDLEKERF_ROOM);
+    CHECK(fields[0] == INT64_C(0x5555555555555555) && fields[21] == fields[0]);
+    CHECK(saddlekerf_form(bytes(LINE1), LENGTH, bytes(LINE2), LENGTH, fields, SADDLEKERF_FIELDS + 1) ==
+          SADDLEKERF_ANSWERED);
+    CHECK(memcmp(fields, EXAMPLE, sizeof fields) == 0);
+    CHECK(saddlekerf_meaning(fields, SADDLEKERF_FIELDS) == SADDLEKERF_ANSWERED);
+    impossible = bytes(line2_with(9, "180.0001"));
+    CHECK(saddlekerf_form(bytes(LINE1), LENGTH, impossible, LENGTH, fields, SADDLEKERF_FIELDS) ==
+          SADDLEKERF_ANSWERED);
+    CHECK(fields[SADDLEKERF_RECORD_INCLINATION] == 1800001);
+    a = saddlekerf_meaning(fields, SADDLEKERF_FIELDS);
+    CHECK(a == (SADDLEKERF_RANGE | SADDLEKERF_FIELD_INCLINATION << 16));
+    CHECK(a == saddlekerf_read(bytes(LINE1), LENGTH, impossible, LENGTH));
+}
+
+/* The meaning of fields alone: 17, then 16 for what no form yields, then 6 with the field. */
+static void judge_meaning(void)
+{
+    static const struct {
+        int field;
+        int64_t in_form, in_none;
+        unsigned named;
+    } ranges[] = {{SADDLEKERF_RECORD_DAY, INT64_C(99999999999), INT64_C(100000000000), SADDLEKERF_FIELD_DAY},
+                  {SADDLEKERF_RECORD_INCLINATION, 9999999, 10000000, SADDLEKERF_FIELD_INCLINATION},
+                  {SADDLEKERF_RECORD_NODE, 3600000, 10000000, SADDLEKERF_FIELD_NODE},
+                  {SADDLEKERF_RECORD_PERIGEE, 3600000, 10000000, SADDLEKERF_FIELD_PERIGEE},
+                  {SADDLEKERF_RECORD_ANOMALY, 9999999, 10000000, SADDLEKERF_FIELD_ANOMALY},
+                  {SADDLEKERF_RECORD_MOTION, 0, INT64_C(10000000000), SADDLEKERF_FIELD_MOTION}};
+    int64_t fields[SADDLEKERF_FIELDS];
+    size_t i;
+
+    CHECK(saddlekerf_meaning(EXAMPLE, SADDLEKERF_FIELDS + 1) == SADDLEKERF_ANSWERED);
+    CHECK(saddlekerf_meaning(EXAMPLE, SADDLEKERF_FIELDS - 1) == SADDLEKERF_ROOM);
+    for (i = 0; i < sizeof ranges / sizeof *ranges; i++) {
+        memcpy(fields, EXAMPLE, sizeof fields);
+        fields[ranges[i].field] = ranges[i].in_form;
+        CHECK(saddlekerf_meaning(fields, SADDLEKERF_FIELDS) == (SADDLEKERF_RANGE | ranges[i].named << 16));
+        fields[SADDLEKERF_RECORD_REVOLUTION] = 100000; /* 16 before 6 */
+        CHECK(saddlekerf_meaning(fields, SADDLEKERF_FIELDS) == SADDLEKERF_RECORD);
+        fields[SADDLEKERF_RECORD_REVOLUTION] = 99999;
+        fields[ranges[i].field] = ranges[i].in_none;
+        CHECK(saddlekerf_meaning(fields, SADDLEKERF_FIELDS) == SADDLEKERF_RECORD);
+    }
+    for (i = 0; i < SADDLEKERF_FIELDS; i++) {
+        memcpy(fields, EXAMPLE, sizeof fields);
+        fields[i] = INT64_MIN;
+        CHECK(saddlekerf_meaning(fields, SADDLEKERF_FIELDS) == SADDLEKERF_RECORD);
+        fields[i] = INT64_MAX;
+        CHECK(saddlekerf_meaning(fields, SADDLEKERF_FIELDS) == SADDLEKERF_RECORD);
+    }
+}
+
 /* Both lines again, at the front of a longer buffer; refused, the buffer stays. */
 static void write_record(void)
 {
@@ -673,6 +741,10 @@ static void lend_nothing(void)
     CHECK(saddlekerf_record(NULL, 0, two, LENGTH, NULL, 0) == (SADDLEKERF_LENGTH | 1 << 8));
     CHECK(saddlekerf_record(one, LENGTH, NULL, 0, NULL, 0) == (SADDLEKERF_LENGTH | 2 << 8));
     CHECK(saddlekerf_record(one, LENGTH, two, LENGTH, NULL, 0) == SADDLEKERF_ROOM);
+    CHECK(saddlekerf_form(NULL, 0, two, LENGTH, NULL, 0) == (SADDLEKERF_LENGTH | 1 << 8));
+    CHECK(saddlekerf_form(one, LENGTH, NULL, 0, NULL, 0) == (SADDLEKERF_LENGTH | 2 << 8));
+    CHECK(saddlekerf_form(one, LENGTH, two, LENGTH, NULL, 0) == SADDLEKERF_ROOM);
+    CHECK(saddlekerf_meaning(NULL, 0) == SADDLEKERF_ROOM);
     CHECK(saddlekerf_write(NULL, 0, 1, f, 4) == SADDLEKERF_ROOM);
     CHECK(saddlekerf_write(EXAMPLE, SADDLEKERF_FIELDS, 1, NULL, 0) == SADDLEKERF_ROOM);
     CHECK(saddlekerf_report(NULL, 0, NULL, 0) == SADDLEKERF_ROOM);
@@ -823,6 +895,8 @@ int main(int argc, char **argv)
     print_example();
     read_at_the_edges();
     read_record();
+    judge_form();
+    judge_meaning();
     write_record();
     letters();
     short_year();

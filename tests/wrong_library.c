@@ -26,6 +26,8 @@ uint64_t __real_saddlekerf_checksum(const uint8_t *bytes, size_t bytes_length);
 uint64_t __real_saddlekerf_print(PAIR, uint8_t *out, size_t out_length);
 uint64_t __real_saddlekerf_epoch(PAIR, uint64_t *instant);
 uint64_t __real_saddlekerf_record(PAIR, int64_t *fields, size_t fields_length);
+uint64_t __real_saddlekerf_form(PAIR, int64_t *fields, size_t fields_length);
+uint64_t __real_saddlekerf_meaning(const int64_t *fields, size_t fields_length);
 uint64_t __real_saddlekerf_write(const int64_t *fields, size_t fields_length, uint32_t line, uint8_t *out,
                                  size_t out_length);
 uint64_t __real_saddlekerf_fill_row(const uint8_t *roster, size_t roster_length, uint64_t *row, size_t row_length);
@@ -123,6 +125,30 @@ uint64_t __wrap_saddlekerf_record(PAIR, int64_t *fields, size_t fields_length)
     if (a != 0 && fields_length > 0 && wrong("record-refused"))
         fields[0] = 0;
     return a;
+}
+
+uint64_t __wrap_saddlekerf_form(PAIR, int64_t *fields, size_t fields_length)
+{
+    const uint64_t a = __real_saddlekerf_form(LENT_PAIR, fields, fields_length);
+    if (a == 0 && fields[SADDLEKERF_RECORD_INCLINATION] > 1800000 && wrong("form-angle"))
+        return SADDLEKERF_RANGE | SADDLEKERF_FIELD_INCLINATION << 16; /* an impossible angle refused as form */
+    if (a == 0 && wrong("form-clipped") && fields[SADDLEKERF_RECORD_INCLINATION] > 1800000)
+        fields[SADDLEKERF_RECORD_INCLINATION] = 1800000;
+    if (a == 0 && fields_length > SADDLEKERF_FIELDS && wrong("form-past"))
+        fields[SADDLEKERF_FIELDS] = 0;
+    if (a != 0 && fields_length > 0 && wrong("form-refused"))
+        fields[0] = 0;
+    return saddlekerf_refusal(a) == SADDLEKERF_COLUMN && wrong("form-column") ? a & 65535 : a;
+}
+
+uint64_t __wrap_saddlekerf_meaning(const int64_t *fields, size_t fields_length)
+{
+    const uint64_t a = __real_saddlekerf_meaning(fields, fields_length);
+    if (a == SADDLEKERF_RECORD && fields[SADDLEKERF_RECORD_INCLINATION] > 1800000 && wrong("meaning-six-first"))
+        return SADDLEKERF_RANGE | SADDLEKERF_FIELD_INCLINATION << 16;
+    if (saddlekerf_refusal(a) == SADDLEKERF_RANGE && wrong("meaning-sixteen"))
+        return SADDLEKERF_RECORD; /* 16 for fields that are in form and out of range */
+    return saddlekerf_refusal(a) == SADDLEKERF_RANGE && wrong("meaning-field") ? a & 255 : a;
 }
 
 uint64_t __wrap_saddlekerf_write(const int64_t *fields, size_t fields_length, uint32_t line, uint8_t *out,

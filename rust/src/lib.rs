@@ -68,6 +68,8 @@
 //! # }
 //! ```
 //!
+//! The form of a pair and what its fields mean are judged apart, too: [`Fields`], [`form`], [`meaning`].
+//!
 //! Lines are any bytes at all, without a line end. They get an answer or exactly one [`Refusal`],
 //! with the line, the first column that breaks the layout, or the field, where it has one.
 //!
@@ -101,7 +103,7 @@ mod roster;
 mod satellite;
 mod time;
 
-pub use record::{Exponential, Fields, Record};
+pub use record::{form, meaning, Exponential, Fields, Record};
 pub use refusal::{Field, Line, Refusal};
 pub use report::{count_text, Date, Report};
 pub use roster::{changes, fill_row, lodge, withdraw, Pair, Roster, Uncompared, Which};

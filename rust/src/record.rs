@@ -188,11 +188,14 @@ impl Record {
 pub struct Fields(Record);
 
 impl Fields {
+    /// How many numbers fields are in lent memory ([`form`], [`meaning`]).
+    pub const NUMBERS: usize = ffi::FIELDS;
+
     /// Judges the form of a pair; or a refusal 1 to 5.
     pub fn read(line1: &[u8], line2: &[u8]) -> Result<Fields, Refusal> {
-        let mut fields = [0; ffi::FIELDS];
-        Packed(ffi::form(line1, line2, &mut fields)).plain()?;
-        Ok(Fields(Record::of(&fields).unwrap_or_else(|| foreign(&fields))))
+        let mut numbers = [0; Fields::NUMBERS];
+        form(line1, line2, &mut numbers)?;
+        Ok(Fields(Record::of(&numbers).unwrap_or_else(|| foreign(&numbers))))
     }
 
     /// Fields to be judged, whoever gives them.
@@ -208,9 +211,37 @@ impl Fields {
     /// Judges their meaning: the record; or refusal 16, where no accepted form yields such fields, and
     /// then 6 with the first field out of its range.
     pub fn judge(self) -> Result<Record, Refusal> {
-        Packed(ffi::meaning(&self.0.fields())).plain()?;
+        meaning(&self.0.fields())?;
         Ok(self.0)
     }
+}
+
+/// Judges the form of a pair alone. Its fields, in their ranges or not, go as 22 numbers to the front of
+/// `numbers`, in the order and units of include/saddlekerf.h (`enum saddlekerf_record_field`), and what
+/// lies past them stays; or a refusal 1 to 5, or 17, where `numbers` is too short: then nothing is
+/// written.
+///
+/// ```
+/// use saddlekerf::{form, meaning, Field, Fields, Refusal};
+///
+/// let line1 = b"1 00005U 58002B   00179.78495062  .00000023  00000-0  28098-4 0  4753";
+/// let line2 = b"2 00005  34.2682 348.7242 1859667 731.7664  19.3264 10.82419157413661";
+/// let mut numbers = [0; Fields::NUMBERS];
+/// assert_eq!(form(line1, line2, &mut numbers), Ok(()));
+/// assert_eq!(numbers[18], 731_7664); // the argument of perigee, in 0.0001 degrees
+/// assert_eq!(meaning(&numbers), Err(Refusal::Range { field: Field::Perigee }));
+/// numbers[18] -= 720_0000;
+/// assert_eq!(meaning(&numbers), Ok(()));
+/// ```
+pub fn form(line1: &[u8], line2: &[u8], numbers: &mut [i64]) -> Result<(), Refusal> {
+    Packed(ffi::form(line1, line2, numbers)).plain()
+}
+
+/// Judges the meaning alone of the fields whose numbers stand at the front of `numbers`, whoever wrote
+/// them: they are a record's; or refusal 17, where there are fewer than 22, then 16, where no accepted
+/// form yields such fields, then 6 with the first field out of its range.
+pub fn meaning(numbers: &[i64]) -> Result<(), Refusal> {
+    Packed(ffi::meaning(numbers)).plain()
 }
 
 /// Only an archive of another header reads such a record.
