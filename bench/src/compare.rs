@@ -5,7 +5,7 @@ use crate::changes::Lent;
 use crate::elementary::Document;
 use crate::generate::{self, Aim, Ask, Call, AIMS, DAMAGES, RELATIONS, ROW_DAMAGES, TEXTS};
 use crate::instant::{self, DAY};
-use crate::library::{Library, Opened};
+use crate::library::{Library, Opened, Unopened};
 use crate::random::Random;
 use crate::report;
 use crate::request::{Row, Satellite, Saved};
@@ -285,6 +285,42 @@ fn write_both(
     Ok(())
 }
 
+/// How a pair's form or numbers were judged, in the tally's words.
+fn judged(what: &str, answer: &Result<(), Unopened>, tally: &mut Tally) {
+    let number = answer.err().map_or(0, Unopened::number);
+    tally.add(format!("{what}: refusal {number:>2}"), 1);
+}
+
+/// The form of a pair alone, into a room of any length, and what the numbers of its fields mean: as they
+/// are, fewer of them, and with some put to any value. Form and meaning one after the other are reading.
+fn judge_both(
+    random: &mut Random,
+    line1: &[u8],
+    line2: &[u8],
+    libraries: (&dyn Library, &dyn Library),
+    tally: &mut Tally,
+) -> Result<(), String> {
+    let (one, other) = libraries;
+    let length = if random.one_in(8) { random.below(22) } else { 22 + random.below(3) } as usize;
+    let (mut room, mut other_room) = (vec![-77; length], vec![-77; length]);
+    let (a, b) = (one.form(line1, line2, &mut room), other.form(line1, line2, &mut other_room));
+    judged("form", &a, tally);
+    same_or("form", (a, &room) == (b, &other_room), &(a, &room), &(b, &other_room))?;
+    if a.is_err() {
+        return same_or("form refused: the room", room.iter().all(|&n| n == -77), &room, &a);
+    }
+    let (a, read) = (other.meaning(&other_room), other.read(line1, line2).map_err(Unopened::Unread));
+    judged("meaning", &a, tally);
+    same_or("form, then meaning", a == read, &a, &read)?;
+    for _ in 0..8 {
+        let numbers = generate::numbers(random, &room);
+        let (a, b) = (one.meaning(&numbers), other.meaning(&numbers));
+        judged("meaning", &a, tally);
+        same_or(&format!("meaning of {numbers:?}"), a == b, &a, &b)?;
+    }
+    Ok(())
+}
+
 fn compare_pair(
     random: &mut Random,
     line1: &[u8],
@@ -314,6 +350,7 @@ fn compare_pair(
     let (a, b) = (one.print(line1, line2), other.print(line1, line2));
     let text = |bytes: &[u8]| String::from_utf8_lossy(bytes).into_owned();
     same_or("printing", a == b, &text(&a), &text(&b))?;
+    judge_both(random, line1, line2, libraries, tally)?;
     let (a, b) = (one.record(line1, line2), other.record(line1, line2));
     same_or("record", a == b, &a, &b)?;
     if let Ok(record) = a {

@@ -268,6 +268,26 @@ fn spoil(random: &mut Random, record: &mut Record) {
     }
 }
 
+/// Numbers of fields, some of them put at, beside or far from a limit of their columns or of their range, or
+/// to anything; at times fewer of them.
+pub fn numbers(random: &mut Random, numbers: &[i64]) -> Vec<i64> {
+    let mut numbers = numbers.to_vec();
+    let powers: Vec<i64> = (0..12).map(|n| 10i64.pow(n)).collect();
+    for _ in 0..random.below(4) {
+        let at = random.below(22) as usize;
+        let limits = [0, 1957, 2056, 340_000, 180_0000, 360_0000, 1_0000_0000, 366_0000_0000, 367_0000_0000];
+        let limit = if random.one_in(2) { *random.pick(&powers) } else { *random.pick(&limits) };
+        let other = numbers[random.below(numbers.len() as u64) as usize];
+        let small = random.between(-130, 130);
+        let any = random.next_u64() as i64;
+        numbers[at] = *random.pick(&[limit, limit - 1, limit + 1, -limit, other, small, any]);
+    }
+    if random.one_in(20) {
+        numbers.truncate(random.below(22) as usize);
+    }
+    numbers
+}
+
 // -------------------------------------------------------------------- lines
 
 fn mend(line: &mut Line) {

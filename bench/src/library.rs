@@ -7,11 +7,11 @@ use crate::instant::{self, SPAN_LIMIT};
 use crate::report::{self, NUMBERS};
 use crate::request::{list_by, Row, Satellite, Saved, STRIDE};
 use crate::roster;
-use crate::tle::{self, Record, Refusal};
+use crate::tle::{self, Record, Refusal, Unmeant, NUMBERS as FIELDS};
 use std::hint::black_box;
 use std::marker::PhantomData;
 
-/// Why a pair is not opened: it is not read (1-6), or refused by number (7, 8).
+/// Why a pair is not opened, or its form not taken: it is not read (1-6), or refused by number.
 #[derive(Clone, Copy, Debug, PartialEq, Eq)]
 pub enum Unopened {
     Unread(Refusal),
@@ -37,6 +37,10 @@ pub trait Library {
     fn epoch(&self, line1: &[u8], line2: &[u8]) -> Result<u64, Refusal>;
     /// What the program prints for a pair.
     fn print(&self, line1: &[u8], line2: &[u8]) -> Vec<u8>;
+    /// The form of a pair: the numbers of its fields at the front of the room lent; or 1-5, 17.
+    fn form(&self, line1: &[u8], line2: &[u8], room: &mut [i64]) -> Result<(), Unopened>;
+    /// The meaning of numbers: a record's; or 17, 16, 6 with the field.
+    fn meaning(&self, numbers: &[i64]) -> Result<(), Unopened>;
     /// The record of a pair; or as `read`.
     fn record(&self, line1: &[u8], line2: &[u8]) -> Result<Record, Refusal>;
     /// Writes line 1 or 2 of a record at the front of the room lent; or 16, 17.
@@ -142,6 +146,21 @@ impl<E: Elementary + Copy + 'static> Library for Port<E> {
 
     fn print(&self, line1: &[u8], line2: &[u8]) -> Vec<u8> {
         tle::print(line1, line2).into_bytes()
+    }
+
+    fn form(&self, line1: &[u8], line2: &[u8], room: &mut [i64]) -> Result<(), Unopened> {
+        let fields = tle::form(line1, line2).map_err(Unopened::Unread)?;
+        let front = room.get_mut(..FIELDS).ok_or(Unopened::Refused(17))?;
+        front.copy_from_slice(&fields.numbers());
+        Ok(())
+    }
+
+    fn meaning(&self, numbers: &[i64]) -> Result<(), Unopened> {
+        tle::meaning(numbers).map_err(|why| match why {
+            Unmeant::Short => Unopened::Refused(17),
+            Unmeant::NoForm => Unopened::Refused(16),
+            Unmeant::Range(field) => Unopened::Unread(Refusal::Range(field)),
+        })
     }
 
     fn record(&self, line1: &[u8], line2: &[u8]) -> Result<Record, Refusal> {
@@ -425,6 +444,14 @@ impl<E: Elementary + Copy + 'static> Library for Restarting<E> {
 
     fn print(&self, line1: &[u8], line2: &[u8]) -> Vec<u8> {
         self.0.print(line1, line2)
+    }
+
+    fn form(&self, line1: &[u8], line2: &[u8], room: &mut [i64]) -> Result<(), Unopened> {
+        self.0.form(line1, line2, room)
+    }
+
+    fn meaning(&self, numbers: &[i64]) -> Result<(), Unopened> {
+        self.0.meaning(numbers)
     }
 
     fn record(&self, line1: &[u8], line2: &[u8]) -> Result<Record, Refusal> {

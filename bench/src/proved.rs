@@ -141,6 +141,14 @@ impl Library for Proved {
         saddlekerf::printed(line1, line2).into_bytes()
     }
 
+    fn form(&self, line1: &[u8], line2: &[u8], room: &mut [i64]) -> Result<(), Unopened> {
+        saddlekerf::form(line1, line2, room).map_err(unopened)
+    }
+
+    fn meaning(&self, numbers: &[i64]) -> Result<(), Unopened> {
+        saddlekerf::meaning(numbers).map_err(unopened)
+    }
+
     fn record(&self, line1: &[u8], line2: &[u8]) -> Result<tle::Record, tle::Refusal> {
         Record::read(line1, line2).map(record).map_err(unread)
     }

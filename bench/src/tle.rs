@@ -1,5 +1,6 @@
 //! Two-line element sets (document 01, "The two lines" and "One pair, printed"), with letters in
-//! catalogue numbers and the days that a year has (document 02, wishes 1 and 3).
+//! catalogue numbers and the days that a year has (document 02, wishes 1 and 3), and the form of a pair
+//! and the meaning of its fields judged apart (wish 9).
 
 use crate::instant;
 
@@ -292,18 +293,92 @@ fn broken_range(record: &Record) -> Option<Field> {
     faults.into_iter().find(|(_, broken)| *broken).map(|(field, _)| field)
 }
 
-/// Reads a pair of lines.
-pub fn read(line1: &[u8], line2: &[u8]) -> Result<Record, Refusal> {
-    let mut record = EMPTY;
-    read_line_1(line1, &mut record)?;
-    let number = read_line_2(line2, &mut record)?;
-    if number != record.number {
+/// The form of a pair of lines: its fields, in their ranges or not; or a refusal 1 to 5.
+pub fn form(line1: &[u8], line2: &[u8]) -> Result<Record, Refusal> {
+    let mut fields = EMPTY;
+    read_line_1(line1, &mut fields)?;
+    let number = read_line_2(line2, &mut fields)?;
+    if number != fields.number {
         return Err(Refusal::Numbers);
     }
-    match broken_range(&record) {
+    Ok(fields)
+}
+
+/// Reads a pair of lines.
+pub fn read(line1: &[u8], line2: &[u8]) -> Result<Record, Refusal> {
+    let fields = form(line1, line2)?;
+    match broken_range(&fields) {
         Some(field) => Err(Refusal::Range(field)),
-        None => Ok(record),
+        None => Ok(fields),
     }
+}
+
+/// The numbers of fields in lent memory (include/saddlekerf.h).
+pub const NUMBERS: usize = 22;
+
+/// Why numbers are no record's: 17, fewer than 22; 16, no accepted form yields them; 6, a range.
+#[derive(Clone, Copy, Debug, PartialEq, Eq)]
+pub enum Unmeant {
+    Short,
+    NoForm,
+    Range(Field),
+}
+
+/// What columns hold of each field but the class and the designator: its place among the numbers, the
+/// least and the most. A sign is part of ndot, of a mantissa and of an exponent; all else is digits.
+const HELD: [(usize, i64, i64); 17] = [
+    (0, 0, 339_999),
+    (6, 1957, 2056),
+    (7, 0, 999_9999_9999),
+    (8, -9999_9999, 9999_9999),
+    (9, -99_999, 99_999),
+    (10, -9, 9),
+    (11, -99_999, 99_999),
+    (12, -9, 9),
+    (13, 0, 9),
+    (14, 0, 9999),
+    (15, 0, 999_9999),
+    (16, 0, 999_9999),
+    (17, 0, 999_9999),
+    (18, 0, 999_9999),
+    (19, 0, 999_9999),
+    (20, 0, 99_9999_9999),
+    (21, 0, 99_999),
+];
+
+/// Whether an accepted form yields these numbers.
+fn yielded(numbers: &[i64]) -> bool {
+    let byte = |n: i64, lawful: &[u8]| lawful.iter().any(|&b| n == b as i64);
+    let letter = |n: i64| (b'A' as i64..=b'Z' as i64).contains(&n);
+    let blank = |n: i64| byte(n, b" ");
+    let [launch, a, b, c] = [2, 3, 4, 5].map(|at| numbers[at]);
+    let none = launch == 0 && blank(a) && blank(b) && blank(c);
+    let filled = if letter(c) { letter(b) } else { blank(c) && (letter(b) || blank(b)) };
+    HELD.iter().all(|&(at, least, most)| (least..=most).contains(&numbers[at]))
+        && byte(numbers[1], b"UCS")
+        && (none || ((0..=99_999).contains(&launch) && letter(a) && filled))
+        && [9, 11].iter().all(|&mantissa| numbers[mantissa] != 0 || numbers[mantissa + 1] == 0)
+}
+
+/// The meaning of the fields whose numbers these are.
+pub fn meaning(numbers: &[i64]) -> Result<(), Unmeant> {
+    if numbers.len() < NUMBERS {
+        return Err(Unmeant::Short);
+    }
+    if !yielded(numbers) {
+        return Err(Unmeant::NoForm);
+    }
+    let fields = Record {
+        year: numbers[6] as u16,
+        day: numbers[7] as u64,
+        inclination: numbers[15] as u32,
+        node: numbers[16] as u32,
+        perigee: numbers[18] as u32,
+        anomaly: numbers[19] as u32,
+        motion: numbers[20] as u64,
+        ..EMPTY
+    };
+    broken_range(&fields).map_or(Ok(()), |field| Err(Unmeant::Range(field)))
 }
 
 const EMPTY: Record = Record {
@@ -361,6 +436,36 @@ impl Record {
             && self.motion <= 99_9999_9999
             && self.revolution <= 99_999
             && broken_range(self).is_none()
+    }
+
+    /// The numbers of the fields. A designator's first five columns are blanks or digits.
+    pub fn numbers(&self) -> [i64; NUMBERS] {
+        let (launch, piece) = self.designator.split_at(5);
+        let launch = launch.iter().fold(0, |n, &byte| 10 * n + (byte & 15) as i64);
+        [
+            self.number as i64,
+            self.classification as i64,
+            launch,
+            piece[0] as i64,
+            piece[1] as i64,
+            piece[2] as i64,
+            self.year as i64,
+            self.day as i64,
+            self.ndot as i64,
+            self.nddot.mantissa as i64,
+            self.nddot.exponent as i64,
+            self.bstar.mantissa as i64,
+            self.bstar.exponent as i64,
+            self.ephemeris as i64,
+            self.set as i64,
+            self.inclination as i64,
+            self.node as i64,
+            self.eccentricity as i64,
+            self.perigee as i64,
+            self.anomaly as i64,
+            self.motion as i64,
+            self.revolution as i64,
+        ]
     }
 
     /// The epoch as an instant: every lawful record's lies inside the calendar.
@@ -553,6 +658,45 @@ mod tests {
         assert_eq!(read(&letter[0], &digits[1]), Err(Refusal::Numbers));
         let record = read(LINE1, LINE2).unwrap();
         assert_eq!(written(&Record { number: 340_000, ..record }, 1), Err(16));
+    }
+
+    /// Wish 9: the form of a pair with one field as long as its columns, whatever its range, and what its
+    /// numbers mean; and one more than the columns hold.
+    #[test]
+    fn form_and_meaning() {
+        let cases: [(usize, usize, &[u8], Option<Field>); 9] = [
+            (0, 18, b"57000.00000000", Some(Field::Day)),
+            (0, 18, b"56999.99999999", Some(Field::Day)),
+            (0, 2, b"Z9999", None),
+            (1, 8, b"999.9999", Some(Field::Inclination)),
+            (1, 17, b"999.9999", Some(Field::Node)),
+            (1, 26, b"9999999", None),
+            (1, 34, b"999.9999", Some(Field::Perigee)),
+            (1, 43, b"360.0000", Some(Field::Anomaly)),
+            (1, 52, b" 0.00000000", Some(Field::Motion)),
+        ];
+        for (which, at, text, broken) in cases {
+            let mut lines = [LINE1, LINE2].map(<[u8]>::to_vec);
+            let both = if at == 2 { 0..2 } else { which..which + 1 };
+            for line in &mut lines[both] {
+                line[at..at + text.len()].copy_from_slice(text);
+                line[LENGTH - 1] = b'0' + checksum(line);
+            }
+            let fields = form(&lines[0], &lines[1]).unwrap();
+            let answer = broken.map_or(Ok(()), |field| Err(Unmeant::Range(field)));
+            assert_eq!(meaning(&fields.numbers()), answer, "{fields:?}");
+            assert_eq!(read(&lines[0], &lines[1]).err(), broken.map(Refusal::Range));
+        }
+        let example = form(LINE1, LINE2).unwrap().numbers();
+        assert_eq!(meaning(&example[..21]), Err(Unmeant::Short));
+        for (at, least, most) in HELD {
+            for n in [least - 1, most + 1, i64::MIN, i64::MAX] {
+                let mut numbers = example;
+                numbers[15] = 180_0001; // 16 comes before 6
+                numbers[at] = n;
+                assert_eq!(meaning(&numbers), Err(Unmeant::NoForm), "{at}: {n}");
+            }
+        }
     }
 
     /// Wish 3: a pair and a record with day 366 of a common year.

@@ -59,6 +59,17 @@ fn port_against_the_proved_library() {
         "read: refusal 4",
         "read: refusal 5",
         "read: refusal 6",
+        "form: refusal  0",
+        "form: refusal  1",
+        "form: refusal  2",
+        "form: refusal  3",
+        "form: refusal  4",
+        "form: refusal  5",
+        "form: refusal 17",
+        "meaning: refusal  0",
+        "meaning: refusal  6",
+        "meaning: refusal 16",
+        "meaning: refusal 17",
         "read: catalogue number with a letter",
         "read: no catalogue number in line 1",
         "read: no catalogue number in line 2",
@@ -295,6 +306,18 @@ enum Slip {
     Text,
     /// A field of a record read.
     RecordField,
+    /// A form that refuses an impossible angle.
+    FormAngle,
+    /// A field of a form brought into its range.
+    FormClipped,
+    /// A number of the room after a refused form.
+    FormRefused,
+    /// A write past the numbers of a form.
+    PastTheFields,
+    /// 6 before 16.
+    SixFirst,
+    /// 16 for a broken range.
+    Sixteen,
     /// A byte of a line written, its checksum as it was.
     Written,
     /// A write past the line.
@@ -389,6 +412,31 @@ impl Library for Slipping {
             text.pop();
         }
         text
+    }
+
+    fn form(&self, line1: &[u8], line2: &[u8], room: &mut [i64]) -> Result<(), Unopened> {
+        let answer = Proved.form(line1, line2, room);
+        match (self.slip, answer) {
+            (Slip::FormAngle, Ok(())) if room[15] > 180_0000 => {
+                room.fill(-77);
+                return Err(Unopened::Unread(Refusal::Range(Field::Inclination)));
+            }
+            (Slip::FormClipped, Ok(())) => room[16] = room[16].min(359_9999),
+            (Slip::FormRefused, Err(_)) if !room.is_empty() => room[0] = 0,
+            (Slip::PastTheFields, Ok(())) if room.len() > 22 => room[22] = 0,
+            _ => {}
+        }
+        answer
+    }
+
+    fn meaning(&self, numbers: &[i64]) -> Result<(), Unopened> {
+        match (self.slip, Proved.meaning(numbers)) {
+            (Slip::SixFirst, Err(Unopened::Refused(16))) if numbers[20] == 0 => {
+                Err(Unopened::Unread(Refusal::Range(Field::Motion)))
+            }
+            (Slip::Sixteen, Err(Unopened::Unread(_))) => Err(Unopened::Refused(16)),
+            (_, answer) => answer,
+        }
     }
 
     fn record(&self, line1: &[u8], line2: &[u8]) -> Result<Record, Refusal> {
@@ -689,6 +737,12 @@ fn every_other_slip_is_seen() {
         (Slip::Epoch, ["epoch"; 2]),
         (Slip::Text, ["printing"; 2]),
         (Slip::RecordField, ["record"; 2]),
+        (Slip::FormAngle, ["form"; 2]),
+        (Slip::FormClipped, ["form"; 2]),
+        (Slip::FormRefused, ["form"; 2]),
+        (Slip::PastTheFields, ["form"; 2]),
+        (Slip::SixFirst, ["meaning of"; 2]),
+        (Slip::Sixteen, ["form, then meaning", "meaning of"]),
         (Slip::Written, ["writing"; 2]),
         (Slip::PastTheLine, ["writing"; 2]),
         (Slip::ShortRoom, ["writing"; 2]),
