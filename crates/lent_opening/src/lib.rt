@@ -9,9 +9,11 @@ use answers::refusal_answer;
 use opening::opening::Opening;
 use opening::opening::open;
 use storing::store;
+use tle::Form;
 use tle::Reading;
 use tle::Record;
-use tle::read;
+use tle::read_form;
+use tle::read_meaning;
 
 fn opening_answer(why: opening::opening::Refusal) -> u64
     ensures { λ r. ⌜ r ≡ answer (number why) 0 0 0 ⌝ }
@@ -38,7 +40,11 @@ pub fn open_held(line1: &[u8], line2: &[u8], numbers: &mut [f64], marks: &mut [u
     ensures { λ _. ⌜ now (numbers .exit) ≡ O.openNumbers (openPairOf (now (line1 .entry)) (now (line2 .entry))) (now (numbers .entry)) (now (marks .entry)) ⌝ }
     ensures { λ _. ⌜ now (marks .exit) ≡ O.openMarks (openPairOf (now (line1 .entry)) (now (line2 .entry))) (now (numbers .entry)) (now (marks .entry)) ⌝ }
 {
-    match read(line1, line2) {
+    let form = read_form(line1, line2);
+    let Form::Fields(fields) = form else {
+        return refusal_answer(form.refusal());
+    };
+    match read_meaning(fields) {
         Reading::Record(r) => open_record(r, numbers, marks),
         Reading::Refused(why) => refusal_answer(why),
     }
