@@ -259,7 +259,7 @@ fn tallied(t: Tally, line1: &[u8], line2: &[u8]) -> Tally
 {
     let form = read_form(line1, line2);
     let Form::Fields(fields) = form else {
-        return with_reading(t, Reading::Refused(form.refusal()));
+        return with_refusal(t, form.refusal().number());
     };
     with_reading(t, read_meaning(fields))
 }

@@ -1,6 +1,6 @@
 // The library's boundary to C and Rust: functions on numbers and slices, each a function of a crate
-// below (lent_pairs, lent_fields, lent_opening, lent_requests) under an exported name. A satellite lies in memory that
-// the caller lends (crate storage). include/saddlekerf.h has the same for C.
+// below (lent_pairs, lent_fields, lent_changes, lent_opening, lent_requests) under an exported name. A
+// satellite lies in memory that the caller lends (crate storage). include/saddlekerf.h has the same for C.
 ghost use mathlib.Core.Path.{_≡_};
 ghost use Prim.Native.Nat.{_%_};
 ghost use lib.ListN.{length};
