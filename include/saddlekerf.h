@@ -38,7 +38,7 @@
  *   Nothing is allocated, nothing is kept after the return, and there is no global state: calls on
  *   different memory may run in any number of threads at once. A request writes the satellite, so
  *   one satellite takes one call at a time; copy the struct to ask it in two threads.
- *   A call that is refused with 1-9 or 16-24 writes nothing. Where memory "stays", it is proved to
+ *   A call that is refused with 1-9 or 16-26 writes nothing. Where memory "stays", it is proved to
  *   hold the same values; all NaNs are one value there, and that a NaN keeps its own bits too is
  *   tested and not proved.
  *
@@ -64,7 +64,7 @@
  *
  *   SADDLEKERF_VERSION is the header's, saddlekerf_version() the archive's. A header and an archive
  *   whose functions, answers or layouts of memory differ do not link: every file that includes the
- *   header refers to the symbol saddlekerf_abi_2, whose name changes with them.
+ *   header refers to the symbol saddlekerf_abi_3, whose name changes with them.
  *
  * ANSWERS
  *
@@ -73,9 +73,10 @@
  *     bits  0-7   refusal number, 0 when answered (enum saddlekerf_refusal_number)
  *     bits  8-15  line 1 or 2 (refusals 1-4); roster 1 or 2 (refusal 22 of saddlekerf_changes); rounds of
  *                 Kepler's equation (saddlekerf_request)
- *     bits 16-31  column, counted from 1 (refusal 3); field (refusal 6 of lines)
+ *     bits 16-31  column, counted from 1 (refusal 3); field (refusal 6 of lines); windows
+ *                 (saddlekerf_windows)
  *     bits 32-63  bytes written (saddlekerf_print, saddlekerf_write, saddlekerf_changes); integrator
- *                 strides (requests)
+ *                 strides (requests, saddlekerf_windows)
  *
  *   What is not named for a function and a refusal is 0. The functions below take an answer apart.
  */
@@ -90,20 +91,24 @@ extern "C" {
 #endif
 
 /* The version of this header: 10000 * major + 100 * minor + patch. */
-#define SADDLEKERF_VERSION 300
+#define SADDLEKERF_VERSION 400
 
 /* Elements of a satellite's memory. More may be lent; they are never touched. */
 #define SADDLEKERF_NUMBERS 83
-#define SADDLEKERF_MARKS 4
+#define SADDLEKERF_MARKS 6
 
 /* Elements of one state. */
 #define SADDLEKERF_STATE 6
 
-/* Bytes of stack: no function needs more. */
-#define SADDLEKERF_STACK 8192
+/* Bytes of stack: no function needs more, and all but saddlekerf_windows need less than 8,192. */
+#define SADDLEKERF_STACK 69632
 
 /* The most times of one list. */
 #define SADDLEKERF_LIST_LIMIT 1024
+
+/* The most samples of one call for windows, and its longest step in seconds. */
+#define SADDLEKERF_SAMPLES_LIMIT 1024
+#define SADDLEKERF_STEP_LIMIT 86400
 
 /* The farthest time from the epoch, in microseconds. */
 #define SADDLEKERF_TIME_LIMIT INT64_C(315532800000000)
@@ -148,14 +153,16 @@ enum saddlekerf_refusal_number {
     SADDLEKERF_RECORD = 16,               /* a record to be written is outside layout or ranges, or no pair
                                              whose form is accepted has the fields */
     SADDLEKERF_ROOM = 17,                 /* lent memory too short */
-    SADDLEKERF_LIST = 18,                 /* a list of more than 1,024 times */
+    SADDLEKERF_LIST = 18,                 /* a list of more than 1,024 times, or windows of more samples */
     SADDLEKERF_FULL = 19,                 /* all 64 places of the roster hold other numbers */
     SADDLEKERF_OLDER = 20,                /* the roster's pair of this number has a later epoch */
     SADDLEKERF_ABSENT = 21,               /* the roster has no pair of this number */
     SADDLEKERF_NO_ROSTER = 22,            /* the buffer is no roster or has another length, or the row has
                                              another length or disagrees with the pairs */
     SADDLEKERF_PAIRS = 23,                /* a text of more than 4,096 whole pairs */
-    SADDLEKERF_ODD = 24                   /* a text with an odd number of lines */
+    SADDLEKERF_ODD = 24,                  /* a text with an odd number of lines */
+    SADDLEKERF_STATION = 25,              /* a station that is zero or not finite */
+    SADDLEKERF_STEP = 26                  /* a step of 0 or more than 86,400 s */
 };
 
 /* The fields of refusal 6, in column order. */
@@ -224,10 +231,10 @@ enum saddlekerf_report_number {
 uint64_t saddlekerf_version(void);
 
 /* 1: the number of the functions, answers and layouts of memory that this header describes. */
-uint64_t saddlekerf_abi_2(void);
+uint64_t saddlekerf_abi_3(void);
 
 /* A header of other functions, answers or layouts than the archive's does not link. */
-__attribute__((used, unused)) static uint64_t (*const saddlekerf_abi)(void) = saddlekerf_abi_2;
+__attribute__((used, unused)) static uint64_t (*const saddlekerf_abi)(void) = saddlekerf_abi_3;
 
 /*
  * 1 where the calling thread's floating-point environment is the one that the proofs speak of, else
@@ -249,6 +256,7 @@ static inline unsigned saddlekerf_which(uint64_t answer) { return (unsigned)(ans
 static inline unsigned saddlekerf_rounds(uint64_t answer) { return (unsigned)(answer >> 8 & 255); }
 static inline unsigned saddlekerf_column(uint64_t answer) { return (unsigned)(answer >> 16 & 65535); }
 static inline unsigned saddlekerf_field(uint64_t answer) { return (unsigned)(answer >> 16 & 65535); }
+static inline unsigned saddlekerf_window_count(uint64_t answer) { return (unsigned)(answer >> 16 & 65535); }
 static inline uint32_t saddlekerf_strides(uint64_t answer) { return (uint32_t)(answer >> 32); }
 static inline uint32_t saddlekerf_written(uint64_t answer) { return (uint32_t)(answer >> 32); }
 
@@ -407,12 +415,13 @@ uint64_t saddlekerf_changes(const uint8_t *first, size_t first_length,
 /* ---- a satellite ---- */
 
 /*
- * Opens a pair: the satellite goes into the first 83 elements of numbers and the first 4 of marks.
+ * Opens a pair: the satellite goes into the first 83 elements of numbers and the first 6 of marks.
  * Answer: 0; 1-6 as saddlekerf_read; 7; 8; 17 where numbers or marks is too short.
  * The memory may be copied and moved. Only what saddlekerf_open wrote and requests changed is a
  * satellite of lines; requests take any other numbers too, and answer by the same rules. Requests
  * change the saved place alone: numbers[0] and numbers[1] (the integrated pair), marks[0] (0 ahead
- * of the epoch, 1 before it) and marks[1] (stride number).
+ * of the epoch, 1 before it) and marks[1] (stride number). marks[4] and marks[5] are the low and the
+ * high 32 bits of the epoch's instant.
  */
 uint64_t saddlekerf_open(const uint8_t *line1, size_t line1_length,
                          const uint8_t *line2, size_t line2_length,
@@ -445,6 +454,28 @@ uint64_t saddlekerf_request_list(double *numbers, size_t numbers_length,
                                  double *states, size_t states_length,
                                  uint8_t *rounds, size_t rounds_length);
 
+/*
+ * Asks for the windows above a station. Sample i is the instant start + i * step seconds, for i below
+ * samples; station is its Earth-fixed x, y, z in km. Each sample's position is turned into the
+ * Earth-fixed frame by the rotation through the Greenwich angle at its instant (UT1 taken as UTC, polar
+ * motion left out), and is visible where the dot product of satellite less station with the station is
+ * above 0. A window is a run of visible samples that cannot be made longer: firsts[i] and lasts[i] are
+ * the instants of its first and its last sample, in time order; what lies past the last window stays.
+ * A sample that is refused ends a run: with 6 outside 1957-2056, where it takes no strides, else as a
+ * row of saddlekerf_request_list, with 9-15.
+ * Answer: 0 with the number of windows (saddlekerf_window_count) and the strides of all samples; 25
+ * where station is three zeros or one of them is not finite (fewer than three elements count as that,
+ * more are not looked at); 26 where step is 0 or more than 86,400; 18 for more than 1,024 samples; 17
+ * where the satellite's memory is too short, or firsts or lasts shorter than half the samples, rounded
+ * up, which is always enough.
+ */
+uint64_t saddlekerf_windows(double *numbers, size_t numbers_length,
+                            uint32_t *marks, size_t marks_length,
+                            const double *station, size_t station_length,
+                            uint64_t start, uint64_t step, size_t samples,
+                            uint64_t *firsts, size_t firsts_length,
+                            uint64_t *lasts, size_t lasts_length);
+
 /* ---- the same on a struct ---- */
 
 typedef struct saddlekerf_satellite {
@@ -475,6 +506,21 @@ static inline uint64_t saddlekerf_satellite_request_list(saddlekerf_satellite *s
     return saddlekerf_request_list(s->numbers, SADDLEKERF_NUMBERS, s->marks, SADDLEKERF_MARKS,
                                    times, count, refusals, count,
                                    states, SADDLEKERF_STATE * count, rounds, count);
+}
+
+/* station has 3 elements, firsts and lasts have places */
+static inline uint64_t saddlekerf_satellite_windows(saddlekerf_satellite *s, const double *station,
+                                                    uint64_t start, uint64_t step, size_t samples,
+                                                    uint64_t *firsts, uint64_t *lasts, size_t places)
+{
+    return saddlekerf_windows(s->numbers, SADDLEKERF_NUMBERS, s->marks, SADDLEKERF_MARKS,
+                              station, 3, start, step, samples, firsts, places, lasts, places);
+}
+
+/* The instant of the epoch that the satellite keeps. */
+static inline uint64_t saddlekerf_satellite_epoch(const saddlekerf_satellite *s)
+{
+    return (uint64_t)s->marks[5] << 32 | s->marks[4];
 }
 
 #ifdef __cplusplus

@@ -1,6 +1,6 @@
 /*
  * Uses the library from C: reads, prints and opens pairs, reads and writes records, lodges pairs in a
- * roster with its row and withdraws them, lists what changed between two, asks for one time and for lists, and holds every answer, bit for bit, to document 01's example and to the rows of the
+ * roster with its row and withdraws them, lists what changed between two, asks for one time, for lists and for windows, and holds every answer, bit for bit, to document 01's example and to the rows of the
  * published test set; what memory holds afterwards too, with NaNs in it whose own bits must stay.
  *
  *   c_example bench/vectors/published-rows.txt
@@ -16,12 +16,18 @@
 #define LENGTH SADDLEKERF_LINE
 #define MINUTE INT64_C(60000000)
 
+/* 2057 January 1, 0h. */
+#define CALENDAR_END UINT64_C(3155760000000000)
+
 static const char LINE1[] = "1 00005U 58002B   00179.78495062  .00000023  00000-0  28098-4 0  4753";
 static const char LINE2[] = "2 00005  34.2682 348.7242 1859667 331.7664  19.3264 10.82419157413667";
 
 /* A one-day resonant pair of the published set. */
 static const char RESONANT1[] = "1 24208U 96044A   06177.04061740 -.00000094  00000-0  10000-3 0  1600";
 static const char RESONANT2[] = "2 24208   3.8536  80.0121 0026640 311.0977  48.3000  1.00778054 36119";
+
+/* A station near the pole, in km: low enough that some satellites stand above it. */
+static const double POLE[3] = {0.0, 0.0, 2000.0};
 
 static const char PRINTED[] =
     "number 5\n"
@@ -93,7 +99,7 @@ static const char *line2_with(size_t column, const char *text)
 static void one_version(void)
 {
     CHECK(saddlekerf_version() == SADDLEKERF_VERSION);
-    CHECK(saddlekerf_abi() == 2);
+    CHECK(saddlekerf_abi() == 3);
 }
 
 /* Under another control word of the processor's arithmetic; the old one is put back. */
@@ -749,21 +755,117 @@ static void lend_nothing(void)
     CHECK(saddlekerf_write(EXAMPLE, SADDLEKERF_FIELDS, 1, NULL, 0) == SADDLEKERF_ROOM);
     CHECK(saddlekerf_report(NULL, 0, NULL, 0) == SADDLEKERF_ROOM);
     CHECK(saddlekerf_report(one, LENGTH, NULL, 0) == SADDLEKERF_ODD);
-    CHECK(saddlekerf_open(NULL, 0, two, LENGTH, n, 83, k, 4) == (SADDLEKERF_LENGTH | 1 << 8));
-    CHECK(saddlekerf_open(one, LENGTH, NULL, 0, n, 83, k, 4) == (SADDLEKERF_LENGTH | 2 << 8));
-    CHECK(saddlekerf_open(one, LENGTH, two, LENGTH, NULL, 0, k, 4) == SADDLEKERF_ROOM);
+    CHECK(saddlekerf_open(NULL, 0, two, LENGTH, n, 83, k, SADDLEKERF_MARKS) == (SADDLEKERF_LENGTH | 1 << 8));
+    CHECK(saddlekerf_open(one, LENGTH, NULL, 0, n, 83, k, SADDLEKERF_MARKS) == (SADDLEKERF_LENGTH | 2 << 8));
+    CHECK(saddlekerf_open(one, LENGTH, two, LENGTH, NULL, 0, k, SADDLEKERF_MARKS) == SADDLEKERF_ROOM);
     CHECK(saddlekerf_open(one, LENGTH, two, LENGTH, n, 83, NULL, 0) == SADDLEKERF_ROOM);
-    CHECK(saddlekerf_request(NULL, 0, k, 4, 0, x, 6) == SADDLEKERF_ROOM);
+    CHECK(saddlekerf_request(NULL, 0, k, SADDLEKERF_MARKS, 0, x, 6) == SADDLEKERF_ROOM);
     CHECK(saddlekerf_request(n, 83, NULL, 0, 0, x, 6) == SADDLEKERF_ROOM);
-    CHECK(saddlekerf_request(n, 83, k, 4, 0, NULL, 0) == SADDLEKERF_ROOM);
-    CHECK(saddlekerf_request_list(NULL, 0, k, 4, time, 1, f, 1, x, 6, r, 1) == SADDLEKERF_ROOM);
+    CHECK(saddlekerf_request(n, 83, k, SADDLEKERF_MARKS, 0, NULL, 0) == SADDLEKERF_ROOM);
+    CHECK(saddlekerf_request_list(NULL, 0, k, SADDLEKERF_MARKS, time, 1, f, 1, x, 6, r, 1) == SADDLEKERF_ROOM);
     CHECK(saddlekerf_request_list(n, 83, NULL, 0, time, 1, f, 1, x, 6, r, 1) == SADDLEKERF_ROOM);
-    CHECK(saddlekerf_request_list(n, 83, k, 4, NULL, 0, f, 1, x, 6, r, 1) == SADDLEKERF_ANSWERED);
-    CHECK(saddlekerf_request_list(n, 83, k, 4, time, 1, NULL, 0, x, 6, r, 1) == SADDLEKERF_ROOM);
-    CHECK(saddlekerf_request_list(n, 83, k, 4, time, 1, f, 1, NULL, 0, r, 1) == SADDLEKERF_ROOM);
-    CHECK(saddlekerf_request_list(n, 83, k, 4, time, 1, f, 1, x, 6, NULL, 0) == SADDLEKERF_ROOM);
-    CHECK(saddlekerf_request_list(n, 83, k, 4, NULL, 0, NULL, 0, NULL, 0, NULL, 0) == SADDLEKERF_ANSWERED);
+    CHECK(saddlekerf_request_list(n, 83, k, SADDLEKERF_MARKS, NULL, 0, f, 1, x, 6, r, 1) == SADDLEKERF_ANSWERED);
+    CHECK(saddlekerf_request_list(n, 83, k, SADDLEKERF_MARKS, time, 1, NULL, 0, x, 6, r, 1) == SADDLEKERF_ROOM);
+    CHECK(saddlekerf_request_list(n, 83, k, SADDLEKERF_MARKS, time, 1, f, 1, NULL, 0, r, 1) == SADDLEKERF_ROOM);
+    CHECK(saddlekerf_request_list(n, 83, k, SADDLEKERF_MARKS, time, 1, f, 1, x, 6, NULL, 0) == SADDLEKERF_ROOM);
+    CHECK(saddlekerf_request_list(n, 83, k, SADDLEKERF_MARKS, NULL, 0, NULL, 0, NULL, 0, NULL, 0) == SADDLEKERF_ANSWERED);
+    CHECK(saddlekerf_windows(NULL, 0, k, SADDLEKERF_MARKS, POLE, 3, 0, 60, 1, &instant, 1, &instant, 0) == SADDLEKERF_ROOM);
+    CHECK(saddlekerf_windows(n, 83, NULL, 0, POLE, 3, 0, 60, 0, NULL, 0, NULL, 0) == SADDLEKERF_ROOM);
+    CHECK(saddlekerf_windows(n, 83, k, SADDLEKERF_MARKS, NULL, 0, 0, 60, 0, NULL, 0, NULL, 0) == SADDLEKERF_STATION);
+    CHECK(saddlekerf_windows(n, 83, k, SADDLEKERF_MARKS, POLE, 3, 0, 60, 0, NULL, 0, NULL, 0) == SADDLEKERF_ANSWERED);
     CHECK(same(&m, &before) && instant == 42);
+}
+
+/*
+ * Windows above the pole: there the turned position has the row's own z, and a sample is visible where that is above the
+ * station's. So the rows of a list, asked of a copy, tell the windows, and the strides.
+ */
+static void windows_above_the_pole(const char *line1, const char *line2, uint64_t start, uint64_t step, size_t samples)
+{
+    static int64_t times[SADDLEKERF_LIST_LIMIT];
+    static uint8_t refusals[SADDLEKERF_LIST_LIMIT], rounds[SADDLEKERF_LIST_LIMIT];
+    static double states[SADDLEKERF_STATE * SADDLEKERF_LIST_LIMIT];
+    static uint64_t firsts[SADDLEKERF_SAMPLES_LIMIT / 2 + 1], lasts[SADDLEKERF_SAMPLES_LIMIT / 2 + 1];
+    saddlekerf_satellite s, copy;
+    uint64_t epoch, list, a;
+    size_t i, inside = 0, windows = 0;
+    int going = 0;
+
+    CHECK(open_lines(&s, line1, line2) == SADDLEKERF_ANSWERED);
+    CHECK(saddlekerf_epoch(bytes(line1), LENGTH, bytes(line2), LENGTH, &epoch) == SADDLEKERF_ANSWERED);
+    CHECK(saddlekerf_satellite_epoch(&s) == epoch);
+    copy = s;
+    while (inside < samples && start + inside * step * 1000000 < CALENDAR_END) {
+        times[inside] = (int64_t)(start + inside * step * 1000000) - (int64_t)epoch;
+        inside++;
+    }
+    list = saddlekerf_satellite_request_list(&copy, times, inside, refusals, states, rounds);
+    CHECK(saddlekerf_refusal(list) == SADDLEKERF_ANSWERED);
+    for (i = 0; i < SADDLEKERF_SAMPLES_LIMIT / 2 + 1; i++)
+        firsts[i] = lasts[i] = 42;
+    a = saddlekerf_satellite_windows(&s, POLE, start, step, samples, firsts, lasts, SADDLEKERF_SAMPLES_LIMIT / 2 + 1);
+    CHECK(saddlekerf_refusal(a) == SADDLEKERF_ANSWERED);
+    CHECK(saddlekerf_strides(a) == saddlekerf_strides(list));
+    for (i = 0; i < inside; i++) {
+        const int visible = refusals[i] == 0 && states[SADDLEKERF_STATE * i + 2] > POLE[2];
+        if (visible && !going)
+            CHECK(firsts[windows++] == start + i * step * 1000000);
+        if (visible)
+            CHECK(lasts[windows - 1] >= start + i * step * 1000000);
+        if (!visible && going)
+            CHECK(lasts[windows - 1] == start + (i - 1) * step * 1000000);
+        going = visible;
+    }
+    if (going)
+        CHECK(lasts[windows - 1] == start + (inside - 1) * step * 1000000);
+    CHECK(saddlekerf_window_count(a) == windows);
+    CHECK(firsts[windows] == 42 && lasts[windows] == 42);
+    /* the position reached is the list's */
+    CHECK(memcmp(&s, &copy, sizeof s) == 0);
+}
+
+/* What a call for windows refuses, in its order, and that it then writes nothing. */
+static void refuse_windows(void)
+{
+    static const double zero[3] = {0.0, -0.0, 0.0};
+    double endless[3] = {1.0, 0.0, 1e308};
+    uint64_t firsts[3] = {1, 2, 3}, lasts[3] = {4, 5, 6};
+    saddlekerf_satellite s, before;
+    uint64_t start;
+    const int64_t far = 7200 * MINUTE;
+
+    CHECK(open_lines(&s, RESONANT1, RESONANT2) == SADDLEKERF_ANSWERED);
+    CHECK(strides_at(&s, far) == 10);
+    start = saddlekerf_satellite_epoch(&s);
+    before = s;
+    endless[2] *= 10.0;
+    CHECK(saddlekerf_satellite_windows(&s, zero, start, 0, 1025, firsts, lasts, 0) == SADDLEKERF_STATION);
+    CHECK(saddlekerf_satellite_windows(&s, endless, start, 60, 2, firsts, lasts, 3) == SADDLEKERF_STATION);
+    CHECK(saddlekerf_satellite_windows(&s, POLE, start, 0, 1025, firsts, lasts, 0) == SADDLEKERF_STEP);
+    CHECK(saddlekerf_satellite_windows(&s, POLE, start, SADDLEKERF_STEP_LIMIT + 1, 2, firsts, lasts, 3) == SADDLEKERF_STEP);
+    CHECK(saddlekerf_satellite_windows(&s, POLE, start, SADDLEKERF_STEP_LIMIT, 1025, firsts, lasts, 0) == SADDLEKERF_LIST);
+    CHECK(saddlekerf_satellite_windows(&s, POLE, start, 60, 5, firsts, lasts, 2) == SADDLEKERF_ROOM);
+    CHECK(saddlekerf_windows(s.numbers, SADDLEKERF_NUMBERS, s.marks, SADDLEKERF_MARKS - 1, POLE, 3, start, 60, 1, firsts, 3,
+                             lasts, 3) == SADDLEKERF_ROOM);
+    CHECK(saddlekerf_windows(s.numbers, SADDLEKERF_NUMBERS, s.marks, SADDLEKERF_MARKS, POLE, 2, start, 60, 1, firsts, 3, lasts,
+                             3) == SADDLEKERF_STATION);
+    /* no sample in the calendar, or none in range: no windows, no strides, and the place stays */
+    CHECK(saddlekerf_satellite_windows(&s, POLE, CALENDAR_END, 60, 6, firsts, lasts, 3) == SADDLEKERF_ANSWERED);
+    CHECK(saddlekerf_satellite_windows(&s, POLE, UINT64_MAX, 86400, 6, firsts, lasts, 3) == SADDLEKERF_ANSWERED);
+    CHECK(saddlekerf_satellite_windows(&s, POLE, 0, 86400, 6, firsts, lasts, 3) == SADDLEKERF_ANSWERED);
+    CHECK(memcmp(&s, &before, sizeof s) == 0);
+    CHECK(firsts[0] == 1 && firsts[1] == 2 && firsts[2] == 3 && lasts[0] == 4 && lasts[1] == 5 && lasts[2] == 6);
+}
+
+static void ask_windows(void)
+{
+    const uint64_t june_2000 = UINT64_C(1372359019733568); /* the example's epoch */
+    windows_above_the_pole(LINE1, LINE2, june_2000, 60, 1024);
+    windows_above_the_pole(LINE1, LINE2, june_2000 - UINT64_C(3600000000), 7, 1023);
+    windows_above_the_pole(LINE1, LINE2, june_2000, 600, 1);
+    windows_above_the_pole(LINE1, LINE2, CALENDAR_END - UINT64_C(60000000000), 86400, 3);
+    windows_above_the_pole(RESONANT1, RESONANT2, UINT64_C(1561593600000000), 3600, 500);
+    refuse_windows();
 }
 
 /* A row of the published set. */
@@ -908,6 +1010,7 @@ int main(int argc, char **argv)
     count_strides();
     keep_memory();
     lend_nothing();
+    ask_windows();
     CHECK(ask_all_published(argv[1]));
     printf("%ld checks, %ld failed\n", checks, failures);
     return failures == 0 ? 0 : 1;

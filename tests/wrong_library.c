@@ -40,6 +40,10 @@ uint64_t __real_saddlekerf_request(SATELLITE, int64_t time, double *state, size_
 uint64_t __real_saddlekerf_request_list(SATELLITE, const int64_t *times, size_t times_length, uint8_t *refusals,
                                         size_t refusals_length, double *states, size_t states_length,
                                         uint8_t *rounds, size_t rounds_length);
+#define STATION                                                                                                     \
+    const double *station, size_t station_length, uint64_t start, uint64_t step, size_t samples, uint64_t *firsts, \
+        size_t firsts_length, uint64_t *lasts, size_t lasts_length
+uint64_t __real_saddlekerf_windows(SATELLITE, STATION);
 
 static int wrong(const char *name)
 {
@@ -324,5 +328,34 @@ uint64_t __wrap_saddlekerf_request_list(SATELLITE, const int64_t *times, size_t 
         plain_nans(states, states_length);
     if (saddlekerf_refusal(a) != 0 && marks_length >= SADDLEKERF_MARKS && wrong("list-refused-place"))
         marks[1] = 0;
+    return a;
+}
+
+uint64_t __wrap_saddlekerf_windows(SATELLITE, STATION)
+{
+    uint64_t a = __real_saddlekerf_windows(LENT_SATELLITE, station, station_length, start, step, samples, firsts,
+                                           firsts_length, lasts, lasts_length);
+    const unsigned windows = saddlekerf_window_count(a);
+    unsigned i;
+    if (windows > 0 && wrong("windows-last")) /* the last instant is the one after the last sample's */
+        for (i = 0; i < windows; i++)
+            lasts[i] += 1000000 * step;
+    if (windows > 0 && wrong("windows-numbers")) /* numbers of samples where instants are due */
+        for (i = 0; i < windows; i++)
+            firsts[i] = (firsts[i] - start) / (1000000 * step);
+    if (windows > 1 && wrong("windows-joined")) { /* a run that goes on through the samples between */
+        lasts[0] = lasts[windows - 1];
+        a -= (uint64_t)(windows - 1) << 16;
+    }
+    if (windows > 0 && firsts_length > windows && wrong("windows-past"))
+        firsts[windows] = 0;
+    if (saddlekerf_refusal(a) != 0 && lasts_length > 0 && wrong("windows-refused"))
+        lasts[0] = 0;
+    if (saddlekerf_refusal(a) != 0 && marks_length >= SADDLEKERF_MARKS && wrong("windows-refused-place"))
+        marks[1] = 0;
+    if (saddlekerf_refusal(a) == SADDLEKERF_STEP && samples > SADDLEKERF_SAMPLES_LIMIT && wrong("windows-order"))
+        return SADDLEKERF_LIST;
+    if (saddlekerf_refusal(a) == 0 && start >= UINT64_C(3155760000000000) && wrong("windows-six")) /* strides counted */
+        return a | (uint64_t)samples << 32;
     return a;
 }

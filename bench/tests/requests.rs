@@ -109,7 +109,7 @@ fn any_saved_position() {
 
 // ---------------------------------------------- the proved library, of any memory
 
-type Memory = ([f64; 83], [u32; 4]);
+type Memory = ([f64; 83], [u32; 6]);
 
 /// Memory that no opening wrote: a published satellite's with some of it changed, or numbers at random.
 fn any_memory(random: &mut Random, opened: &saddlekerf::Satellite) -> Memory {
@@ -142,12 +142,12 @@ fn one_nan(x: f64) -> u64 {
     }
 }
 
-fn pattern((numbers, marks): (&[f64; 83], &[u32; 4])) -> ([u64; 83], [u32; 4]) {
+fn pattern((numbers, marks): (&[f64; 83], &[u32; 6])) -> ([u64; 83], [u32; 6]) {
     (numbers.map(one_nan), *marks)
 }
 
 /// The strides that document 01 counts from the saved position, and the position's side and number after.
-fn expected(marks: &[u32; 4], time: i64) -> (u32, [u32; 2]) {
+fn expected(marks: &[u32; 6], time: i64) -> (u32, [u32; 2]) {
     let m = if marks[3] < 2 { 0 } else { (time.unsigned_abs() / STRIDE as u64) as u32 };
     let forward = m == 0 || time > 0;
     let resumes = (marks[1] == 0 || (marks[0] == 0) == forward) && m >= marks[1];

@@ -13,14 +13,14 @@ compile_error!("libsaddlekerf.a is for Linux on x86-64");
 
 /// Elements of a satellite's memory.
 pub const NUMBERS: usize = 83;
-pub const MARKS: usize = 4;
+pub const MARKS: usize = 6;
 
 /// Numbers of a record.
 pub const FIELDS: usize = 22;
 
 /// The version of this package, as the header and the archive tell theirs.
 #[cfg(test)]
-pub const VERSION: u64 = 300;
+pub const VERSION: u64 = 400;
 
 /// f64s of one state.
 const STATE: usize = 6;
@@ -35,7 +35,7 @@ mod c {
     extern "C" {
         pub fn saddlekerf_version() -> u64;
 
-        pub fn saddlekerf_abi_2() -> u64;
+        pub fn saddlekerf_abi_3() -> u64;
 
         pub fn saddlekerf_read(
             line1: *const u8,
@@ -172,13 +172,29 @@ mod c {
             rounds: *mut u8,
             rounds_length: usize,
         ) -> u64;
+
+        pub fn saddlekerf_windows(
+            numbers: *mut f64,
+            numbers_length: usize,
+            marks: *mut u32,
+            marks_length: usize,
+            station: *const f64,
+            station_length: usize,
+            start: u64,
+            step: u64,
+            samples: usize,
+            firsts: *mut u64,
+            firsts_length: usize,
+            lasts: *mut u64,
+            lasts_length: usize,
+        ) -> u64;
     }
 }
 
 /// An archive whose functions, answers or layouts of memory differ from those that are called here
 /// does not link: the name of this symbol changes with them.
 #[used]
-static ABI: unsafe extern "C" fn() -> u64 = c::saddlekerf_abi_2;
+static ABI: unsafe extern "C" fn() -> u64 = c::saddlekerf_abi_3;
 
 pub fn version() -> u64 {
     // SAFETY: it takes nothing and touches nothing.
@@ -375,6 +391,37 @@ pub fn request_list(
     }
 }
 
+#[allow(clippy::too_many_arguments)]
+pub fn windows(
+    numbers: &mut [f64],
+    marks: &mut [u32],
+    station: &[f64],
+    start: u64,
+    step: u64,
+    samples: usize,
+    firsts: &mut [u64],
+    lasts: &mut [u64],
+) -> u64 {
+    // SAFETY: slices, all but `station` mutable, so that none overlaps another.
+    unsafe {
+        c::saddlekerf_windows(
+            numbers.as_mut_ptr(),
+            numbers.len(),
+            marks.as_mut_ptr(),
+            marks.len(),
+            station.as_ptr(),
+            station.len(),
+            start,
+            step,
+            samples,
+            firsts.as_mut_ptr(),
+            firsts.len(),
+            lasts.as_mut_ptr(),
+            lasts.len(),
+        )
+    }
+}
+
 #[cfg(test)]
 mod tests {
     use super::*;
@@ -393,6 +440,8 @@ mod tests {
         assert_eq!(defined("MARKS"), MARKS as i64);
         assert_eq!(defined("STATE"), STATE as i64);
         assert_eq!(defined("LIST_LIMIT"), Satellite::LIST_LIMIT as i64);
+        assert_eq!(defined("SAMPLES_LIMIT"), Satellite::SAMPLES_LIMIT as i64);
+        assert_eq!(defined("STEP_LIMIT"), Satellite::STEP_LIMIT as i64);
         assert_eq!(defined("PRINT_ROOM"), PRINT_ROOM as i64);
         assert_eq!(defined("TIME_LIMIT"), Microseconds::LIMIT.0);
         assert_eq!(defined("LINE"), Record::LINE as i64);
@@ -414,6 +463,6 @@ mod tests {
             env!("CARGO_PKG_VERSION").split('.').map(|word| word.parse().unwrap()).collect();
         assert_eq!(10_000 * words[0] + 100 * words[1] + words[2], VERSION);
         // SAFETY: it takes nothing and touches nothing.
-        assert_eq!(unsafe { ABI() }, 2);
+        assert_eq!(unsafe { ABI() }, 3);
     }
 }

@@ -90,7 +90,7 @@
 //!
 //! A request takes at most 7,304 integrator strides (1.5 ms or so) and a list at most 7,479,296: 1,024
 //! times ten years from the epoch, each on the other side than the one before. Without resonance there
-//! are none. The archive needs at most 8,192 bytes of stack.
+//! are none. A call for windows needs at most 69,632 bytes of stack, any other less than 8,192.
 
 #![deny(unsafe_code, missing_debug_implementations)]
 
@@ -107,7 +107,7 @@ pub use record::{form, meaning, Exponential, Fields, Record};
 pub use refusal::{Field, Line, Refusal};
 pub use report::{count_text, Date, Report};
 pub use roster::{changes, fill_row, lodge, withdraw, Pair, Roster, Uncompared, Which};
-pub use satellite::{Answer, Rooms, Row, Rows, Satellite, State};
+pub use satellite::{Answer, Rooms, Row, Rows, Satellite, State, Window, Windows};
 pub use time::{Instant, Microseconds, Strides};
 
 use refusal::Answer as Packed;

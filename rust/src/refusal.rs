@@ -68,7 +68,7 @@ pub enum Refusal {
     Record,
     /// 17: lent room too short.
     Room,
-    /// 18: a list of more than 1,024 times.
+    /// 18: a list of more than 1,024 times, or windows of more than 1,024 samples.
     List,
     /// 19: all 64 places of a roster hold other numbers.
     Full,
@@ -83,10 +83,14 @@ pub enum Refusal {
     Pairs,
     /// 24: a text with an odd number of lines.
     Odd,
+    /// 25: a station that is zero or not finite.
+    Station,
+    /// 26: a step of 0 or more than 86,400 s.
+    Step,
 }
 
 impl Refusal {
-    /// The refusal's number, 1 to 24.
+    /// The refusal's number, 1 to 26.
     pub const fn number(self) -> u8 {
         match self {
             Refusal::Length { .. } => 1,
@@ -113,6 +117,8 @@ impl Refusal {
             Refusal::NoRoster => 22,
             Refusal::Pairs => 23,
             Refusal::Odd => 24,
+            Refusal::Station => 25,
+            Refusal::Step => 26,
         }
     }
 }
@@ -148,13 +154,15 @@ impl fmt::Display for Refusal {
             Refusal::StateNotFinite => f.write_str("a number of the state is not finite"),
             Refusal::Record => f.write_str("a record outside layout or ranges"),
             Refusal::Room => f.write_str("lent room too short"),
-            Refusal::List => f.write_str("a list of more than 1,024 times"),
+            Refusal::List => f.write_str("more than 1,024 times or samples"),
             Refusal::Full => f.write_str("all 64 places hold other numbers"),
             Refusal::Older => f.write_str("an epoch older than that of the roster's pair"),
             Refusal::Absent => f.write_str("no pair of this number"),
             Refusal::NoRoster => f.write_str("the buffer is no roster"),
             Refusal::Pairs => f.write_str("a text of more than 4,096 pairs"),
             Refusal::Odd => f.write_str("a text with an odd number of lines"),
+            Refusal::Station => f.write_str("a station that is zero or not finite"),
+            Refusal::Step => f.write_str("a step of 0 or more than 86,400 s"),
         }
     }
 }
@@ -194,6 +202,15 @@ impl Answer {
             (0, count) => Ok(count),
             (_, 0) => Err(self.refusal()),
             _ => self.foreign(),
+        }
+    }
+
+    /// The answer of a call for windows: how many there are and the strides, or a refusal, which tells neither.
+    pub fn windowed(self) -> Result<(u16, u32), Refusal> {
+        match (self.0 as u8, self.detail()) {
+            (0, 0) => Ok((self.place(), self.count())),
+            (0, _) => self.foreign(),
+            _ => self.counted().map(|count| (0, count)),
         }
     }
 
@@ -256,6 +273,8 @@ impl Answer {
             22 => Refusal::NoRoster,
             23 => Refusal::Pairs,
             24 => Refusal::Odd,
+            25 => Refusal::Station,
+            26 => Refusal::Step,
             _ => return None,
         })
     }
@@ -338,13 +357,15 @@ mod tests {
             (15, 15, Refusal::StateNotFinite, "a number of the state is not finite"),
             (16, 16, Refusal::Record, "a record outside layout or ranges"),
             (17, 17, Refusal::Room, "lent room too short"),
-            (18, 18, Refusal::List, "a list of more than 1,024 times"),
+            (18, 18, Refusal::List, "more than 1,024 times or samples"),
             (19, 19, Refusal::Full, "all 64 places hold other numbers"),
             (20, 20, Refusal::Older, "an epoch older than that of the roster's pair"),
             (21, 21, Refusal::Absent, "no pair of this number"),
             (22, 22, Refusal::NoRoster, "the buffer is no roster"),
             (23, 23, Refusal::Pairs, "a text of more than 4,096 pairs"),
             (24, 24, Refusal::Odd, "a text with an odd number of lines"),
+            (25, 25, Refusal::Station, "a station that is zero or not finite"),
+            (26, 26, Refusal::Step, "a step of 0 or more than 86,400 s"),
         ];
         for (answer, number, refusal, text) in table {
             assert_eq!(Answer(answer).plain(), Err(refusal));
@@ -362,6 +383,8 @@ mod tests {
         assert_eq!(Answer(0).plain(), Ok(()));
         assert_eq!(Answer(0x0000_0007_0000_0400).asked(), (Ok(4), 7));
         assert_eq!(Answer(0x0000_0007_0000_0000).counted(), Ok(7));
+        assert_eq!(Answer(0x0000_0007_0003_0000).windowed(), Ok((3, 7)));
+        assert_eq!(Answer(26).windowed(), Err(Refusal::Step));
     }
 
     /// Numbers, lines, columns, fields and values that belong to no answer of the header.
@@ -369,7 +392,7 @@ mod tests {
     fn another_answer_is_no_refusal() {
         let told = |ask: fn(Answer) -> bool, answer| std::panic::catch_unwind(|| ask(Answer(answer))).is_ok();
         let plain = |answer: Answer| answer.plain().is_ok();
-        for answer in [25, 1, 0x0301, 0x0001_0101, 0x0100_0103, 0x0006, 0x0007_0006, 0x0107, 0x0001_0009] {
+        for answer in [27, 1, 0x0301, 0x0001_0101, 0x0100_0103, 0x0006, 0x0007_0006, 0x0107, 0x0001_0009] {
             assert!(!told(plain, answer), "{answer:#x}");
         }
         for answer in [1 << 32, 4 << 8, 1 << 16, 9 | 1 << 32] {
@@ -377,6 +400,9 @@ mod tests {
         }
         for answer in [4 << 8, 17 | 1 << 32] {
             assert!(!told(|answer| answer.counted().is_ok(), answer), "{answer:#x}");
+        }
+        for answer in [1 << 8, 25 | 1 << 16, 26 | 1 << 32] {
+            assert!(!told(|answer| answer.windowed().is_ok(), answer), "{answer:#x}");
         }
         for answer in [1 << 16, 14 | 4 << 8] {
             assert!(!told(|answer| answer.asked().0.is_ok(), answer), "{answer:#x}");

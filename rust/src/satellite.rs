@@ -2,7 +2,7 @@
 
 use crate::ffi;
 use crate::refusal::{Answer as Packed, Refusal};
-use crate::{Microseconds, Strides};
+use crate::{Instant, Microseconds, Strides};
 
 /// Position and velocity in SGP4's own frame: true equator, mean equinox (TEME).
 #[derive(Clone, Copy, Debug, Default, PartialEq)]
@@ -91,6 +91,21 @@ fn foreign(number: u8) -> ! {
     panic!("libsaddlekerf.a refused a row with {number}, which saddlekerf.h does not have")
 }
 
+/// A run of visible samples that cannot be made longer, as the instants of its first and its last sample.
+#[derive(Clone, Copy, Debug, PartialEq, Eq)]
+pub struct Window {
+    pub first: Instant,
+    pub last: Instant,
+}
+
+/// The windows of a satellite above a station, in time order.
+#[derive(Clone, Debug, PartialEq, Eq)]
+pub struct Windows {
+    pub windows: Vec<Window>,
+    /// Strides that the resonance integrator took for all samples together.
+    pub strides: Strides,
+}
+
 /// A satellite opened from two lines.
 ///
 /// It keeps the place of its resonance integrator between requests, which shortens the way and never
@@ -109,6 +124,10 @@ impl Satellite {
 
     /// The most times of one list.
     pub const LIST_LIMIT: usize = 1024;
+
+    /// The most samples of one call for windows, and its longest step in seconds.
+    pub const SAMPLES_LIMIT: usize = 1024;
+    pub const STEP_LIMIT: u64 = 86_400;
 
     /// Reads and opens two lines; or a refusal 1 to 8.
     ///
@@ -170,9 +189,77 @@ impl Satellite {
         Ok(Rows { refusals: &refusals[..count], states: &states[..count], rounds: &rounds[..count], strides })
     }
 
+    /// The instant of the epoch, which the satellite keeps.
+    pub fn epoch(&self) -> Instant {
+        Instant((self.marks[5] as u64) << 32 | self.marks[4] as u64)
+    }
+
+    /// The windows above a station: its Earth-fixed position in km, the first sample's instant, the
+    /// seconds from a sample to the next, and how many samples there are.
+    ///
+    /// A sample is visible where the satellite, turned into the Earth-fixed frame, stands above the
+    /// plane through the station across its position. A sample that is refused ends a window: with 6
+    /// outside 1957-2056, else as a row of a list.
+    ///
+    /// The call as a whole is refused with 25 where the station is zero or not finite, with 26 where
+    /// the step is 0 or more than [`STEP_LIMIT`](Self::STEP_LIMIT), and with 18 where there are more
+    /// than [`SAMPLES_LIMIT`](Self::SAMPLES_LIMIT) samples; then the satellite stays as it was.
+    ///
+    /// ```
+    /// use saddlekerf::{Refusal, Satellite};
+    ///
+    /// # fn main() -> Result<(), Refusal> {
+    /// # let line1 = b"1 00005U 58002B   00179.78495062  .00000023  00000-0  28098-4 0  4753";
+    /// # let line2 = b"2 00005  34.2682 348.7242 1859667 331.7664  19.3264 10.82419157413667";
+    /// let mut satellite = Satellite::open(line1, line2)?;
+    /// let equator = [6378.135, 0.0, 0.0];
+    /// let start = satellite.epoch();
+    /// let day = satellite.windows(equator, start, 60, 1024)?;
+    /// for window in &day.windows {
+    ///     assert!(start <= window.first && window.first <= window.last);
+    /// }
+    /// assert_eq!(satellite.windows([0.0; 3], start, 60, 1024), Err(Refusal::Station));
+    /// # Ok(())
+    /// # }
+    /// ```
+    pub fn windows(
+        &mut self,
+        station: [f64; 3],
+        start: Instant,
+        step: u64,
+        samples: usize,
+    ) -> Result<Windows, Refusal> {
+        let mut firsts = [0; Self::SAMPLES_LIMIT / 2];
+        let mut lasts = [0; Self::SAMPLES_LIMIT / 2];
+        let (count, strides) = self.windows_into(&station, start, step, samples, &mut firsts, &mut lasts)?;
+        let pairs = firsts.iter().zip(&lasts).take(count);
+        let windows =
+            pairs.map(|(&first, &last)| Window { first: Instant(first), last: Instant(last) }).collect();
+        Ok(Windows { windows, strides })
+    }
+
+    /// The same with memory lent for the windows: their first and last instants at the front of each,
+    /// how many there are, and the strides. What lies past them stays. Half as many elements as
+    /// samples, rounded up, are always enough; with fewer the call is refused with 17, after 18.
+    pub fn windows_into(
+        &mut self,
+        station: &[f64],
+        start: Instant,
+        step: u64,
+        samples: usize,
+        firsts: &mut [u64],
+        lasts: &mut [u64],
+    ) -> Result<(usize, Strides), Refusal> {
+        let Satellite { numbers, marks } = self;
+        let answer = Packed(ffi::windows(numbers, marks, station, start.0, step, samples, firsts, lasts));
+        let (count, strides) = answer.windowed()?;
+        Ok((count as usize, Strides(strides)))
+    }
+
     /// The satellite's memory: a copy of it is the same satellite, wherever it is kept. Requests
     /// change the saved place alone, which is the first two numbers (the integrated pair) and the
-    /// first two marks (side of the epoch, 0 ahead; stride number).
+    /// first two marks (side of the epoch, 0 ahead; stride number). The last two marks are the low and
+    /// the high half of the epoch's instant.
     pub fn memory(&self) -> (&[f64; ffi::NUMBERS], &[u32; ffi::MARKS]) {
         (&self.numbers, &self.marks)
     }

@@ -102,9 +102,9 @@ fn c_example_sees_wrong_libraries() {
 fn another_boundary_does_not_link() {
     let program = in_tmp("c_example_other");
     let output =
-        output(&mut compile(&program, &["-Dsaddlekerf_abi_2=saddlekerf_abi_1", "tests/c_example.c"]));
+        output(&mut compile(&program, &["-Dsaddlekerf_abi_3=saddlekerf_abi_2", "tests/c_example.c"]));
     let errors = String::from_utf8_lossy(&output.stderr).into_owned();
-    assert!(!output.status.success() && errors.contains("saddlekerf_abi_1"), "{errors}");
+    assert!(!output.status.success() && errors.contains("saddlekerf_abi_2"), "{errors}");
 }
 
 #[test]

@@ -388,7 +388,7 @@ fn reopening_refused() {
 #[test]
 fn reopening_refused_in_any_memory() {
     let numbers = std::array::from_fn(|i| f64::from_bits(0x7ff8_0000_0000_0000 | (i as u64) << 32 | 69));
-    let mut satellite = Satellite::from_memory(numbers, [7, u32::MAX, 9, 5]);
+    let mut satellite = Satellite::from_memory(numbers, [7, u32::MAX, 9, 5, 3, u32::MAX]);
     let before = memory(&satellite);
     for (number, line1, line2) in unopened() {
         assert_eq!(satellite.reopen(&line1, &line2).unwrap_err().number(), number);

@@ -24,6 +24,8 @@ use Rattle.sgp4.specs.declared.Row.{Row}
 use Rattle.sgp4.specs.Sgp4.{integratorOf}
 use Rattle.requests.specs.Request.{answered}
 use Rattle.requests.specs.Lists.{satelliteFrom, listRefusal, listTimes, rowsFrom, refusalsOf, statesOf, roundsOf, over}
+use Rattle.windows.specs.Windows as W
+use Rattle.windows.specs.Answer.{windowsAt}
 use Rattle.sequences.specs.Demand3 as D
 use Rattle.sequences.proofs.Nine.{nine-or-not}
 use Rattle.sequences.proofs.Demand3.{demand-3}
@@ -34,7 +36,8 @@ use Rattle.answers.specs.Answer.{answer}
 use Rattle.answers.specs.Refusals.{refusalAnswer}
 use Rattle.lent_opening.specs.Opening.{openAnswer, openNumbers, openMarks}
 use Rattle.lent_requests.specs.Requests.{requestShort, rowPut, keptNumbers, keptMarks, Requested, listNumber, Listed}
-use Rattle.boundary_claims.specs.Sequences.{Memory, openedIn, Call, One, Many, Does, Calls, callTimes, timesOf, Tells, Told, toldStrides, aloneStrides, Sequences}
+use Rattle.lent_windows.specs.Windows.{Windowed}
+use Rattle.boundary_claims.specs.Sequences.{Memory, openedIn, Call, One, Many, Windows, asked, Does, Calls, callTimes, timesOf, Tells, Told, toldStrides, aloneStrides, Sequences}
 
 -- ── the requests behind calls ──
 
@@ -42,6 +45,7 @@ use Rattle.boundary_claims.specs.Sequences.{Memory, openedIn, Call, One,
 abbrev asks : Call → List D.Request
 asks (One t state r state′) = cond (ltb (length state) 6) [] (D.One t ∷ [])
 asks (Many ts a b c r a′ b′ c′) = D.Many ts (length a) (length b) (length c) ∷ []
+asks (Windows p start seconds samples a b r a′ b′) = D.Windows (asked p start seconds samples a b) ∷ []
 
 abbrev requestsOf : List Call → List D.Request
 requestsOf [] = []
@@ -62,6 +66,11 @@ Gives s (Many ts a b c r a′ b′ c′) =
     let o = D.outcome s (D.Many ts (length a) (length b) (length c)) in
     (r ≡ answer (listRefusal (length ts) (length a) (length b) (length c)) 0 0 (o .strides))
     × ((a′ ≡ over (refusalsOf (o .rows)) a) × ((b′ ≡ over (statesOf (o .rows)) b) × (c′ ≡ over (roundsOf (o .rows)) c)))
+Gives s (Windows p start seconds samples a b r a′ b′) =
+    let c = asked p start seconds samples a b in
+    let o = D.outcome s (D.Windows c) in
+    (r ≡ answer (W.callRefusal c) 0 (length (o .windows)) (o .strides))
+    × ((a′ ≡ over (map (λ w. w .first) (o .windows)) a) × (b′ ≡ over (map (λ w. w .last) (o .windows)) b))
 
 -- every call, the first for s, each later one for what the last request gave back
 abbrev Given : Satellite → List Call → Type 0
@@ -75,7 +84,7 @@ absurd = elim [ ]
 
 record Holds (ns : List Float) (ms : List ℕ) (s : Satellite) : Type 0 where
   numbers : 83 ≤ length ns
-  marks : 4 ≤ length ms
+  marks : 6 ≤ length ms
   held : satelliteOf ns ms ≡ s
 
 room : {ns : List Float} {ms : List ℕ} {s : Satellite} → Holds ns ms s → tooShort (length ns) (length ms) ≡ false
@@ -143,6 +152,14 @@ list-number : (p q n a b c : ℕ) → tooShort p q ≡ false → listNumber p q 
 unfolding listNumber listRefusal
 list-number p q n a b c e = rw e (same-number (ltb 1024 n) _)
 
+-- ── windows ──
+
+sights-by : (e : Bool) (x : ℕ) (xs : List ℕ) (s : Satellite) (ns : List Float) (ms : List ℕ) (ns′ : List Float) (ms′ : List ℕ) → Holds ns ms s
+    → ns′ ≡ cond e (placedNumbers (satelliteFrom s (W.timesOf x (cond e xs [])) .place) ns ms) ns → ms′ ≡ cond e (placedMarks (satelliteFrom s (W.timesOf x (cond e xs [])) .place) ns ms) ms
+    → Holds ns′ ms′ (satelliteFrom s (W.timesOf x (cond e xs [])))
+sights-by true x xs s ns ms ns′ ms′ h a b = many-by true (W.timesOf x xs) s ns ms ns′ ms′ h a b
+sights-by false x xs s ns ms ns′ ms′ h a b = moved a b refl h
+
 -- ── every call ──
 
 step : (c : Call) (m n : Memory) (s : Satellite) → Holds (m .numbers) (m .marks) s → Does m c n → Holds (n .numbers) (n .marks) (after s (asks c)) × Gives s c
@@ -156,6 +173,12 @@ step (Many ts a b c r a′ b′ c′) m n s h d =
     let k = listRefusal (length ts) (length a) (length b) (length c) in
     let p : Listed k s (m .numbers) (m .marks) ts a b c r (n .numbers) (n .marks) a′ b′ c′ = rw (list-number _ _ (length ts) (length a) (length b) (length c) (room h), h .held) at d in
     (many-by (eqb k 0) ts s _ _ _ _ h (p .numbers) (p .marks), (p .answered, (p .refusals, (p .states, p .rounds))))
+step (Windows q start seconds samples a b r a′ b′) m n s h d =
+    let c = asked q start seconds samples a b in
+    let p : Windowed false s c (m .numbers) (m .marks) a b r (n .numbers) (n .marks) a′ b′ = rw (room h, h .held) at d in (
+      sights-by (eqb (W.callRefusal c) 0) (D.epoch s) (W.instantsFrom start seconds 0 samples) s _ _ _ _ h (p .numbers) (p .marks),
+      (p .answered, (p .firsts, p .lasts)),
+    )
 
 after-append : (s : Satellite) (xs ys : List D.Request) → after s (xs ++ ys) ≡ after (after s xs) ys
 after-append s [] ys = refl
@@ -184,17 +207,20 @@ module _ (s₀ : Satellite) where
   abbrev i : Integrator
   i = integratorOf (s₀ .model)
 
+  abbrev x₀ : ℕ
+  x₀ = D.epoch s₀
+
   abbrev rowsAlone : List D.Request → List (List Row)
-  rowsAlone rs = map (λ r. map (D.rowAlone s₀) (D.rowTimes r)) rs
+  rowsAlone rs = map (λ r. map (D.rowAlone s₀) (D.rowTimes x₀ r)) rs
 
   abbrev runRows : Satellite → List D.Request → List (List Row)
   runRows s rs = map (λ o. o .rows) (D.run s rs)
 
   one-told : (b : Bool) (t : ℤ) (state : List Float) (r : ℕ) (state′ : List Float) (s : Satellite) (l : D.Last) (rs : List D.Request)
       → (r ≡ cond b (answer 17 0 0 0) (answer (answered s t .row .refusal) (answered s t .row .rounds) 0 (answered s t .strides .0))) × (state′ ≡ cond b state (rowPut (answered s t .row) state))
-      → runRows s (cond b [] (D.One t ∷ []) ++ rs) ≡ rowsAlone (cond b [] (D.One t ∷ []) ++ rs) → D.reported s (cond b [] (D.One t ∷ []) ++ rs) ≡ D.counted i l (cond b [] (D.One t ∷ []) ++ rs)
+      → runRows s (cond b [] (D.One t ∷ []) ++ rs) ≡ rowsAlone (cond b [] (D.One t ∷ []) ++ rs) → D.reported s (cond b [] (D.One t ∷ []) ++ rs) ≡ D.counted x₀ i l (cond b [] (D.One t ∷ []) ++ rs)
       → ((r ≡ cond b (answer 17 0 0 0) (answer (D.rowAlone s₀ t .refusal) (D.rowAlone s₀ t .rounds) 0 (D.countsOf i l (t ∷ [])))) × (state′ ≡ cond b state (rowPut (D.rowAlone s₀ t) state)))
-      × ((runRows (after s (cond b [] (D.One t ∷ []))) rs ≡ rowsAlone rs) × (D.reported (after s (cond b [] (D.One t ∷ []))) rs ≡ D.counted i (D.lastsOf l (cond b [] (t ∷ []))) rs))
+      × ((runRows (after s (cond b [] (D.One t ∷ []))) rs ≡ rowsAlone rs) × (D.reported (after s (cond b [] (D.One t ∷ []))) rs ≡ D.counted x₀ i (D.lastsOf l (cond b [] (t ∷ []))) rs))
   one-told true t state r state′ s l rs g e c = (g, (e, c))
   one-told false t state r state′ s l rs g e c =
       let x = answered s t in
@@ -207,11 +233,11 @@ module _ (s₀ : Satellite) where
         (ap tailOf e, ap tailOf c),
       )
 
-  told-of : (cs : List Call) (s : Satellite) (l : D.Last) → Given s cs → runRows s (requestsOf cs) ≡ rowsAlone (requestsOf cs) → D.reported s (requestsOf cs) ≡ D.counted i l (requestsOf cs) → Told s₀ l cs
+  told-of : (cs : List Call) (s : Satellite) (l : D.Last) → Given s cs → runRows s (requestsOf cs) ≡ rowsAlone (requestsOf cs) → D.reported s (requestsOf cs) ≡ D.counted x₀ i l (requestsOf cs) → Told s₀ l cs
   told-of [] s l g e c = tt
   told-of (One t state r state′ ∷ cs) s l g e c =
       let x = one-told (ltb (length state) 6) t state r state′ s l (requestsOf cs) (g .0) e c in
-      (x .0, told-of cs (after s (asks (One t state r state′))) (D.lastsOf l (callTimes (One t state r state′))) (g .1) (x .1 .0) (x .1 .1))
+      (x .0, told-of cs (after s (asks (One t state r state′))) (D.lastsOf l (callTimes x₀ (One t state r state′))) (g .1) (x .1 .0) (x .1 .1))
   told-of (Many ts a b c r a′ b′ c′ ∷ cs) s l g e k =
       let us = listTimes ts (length a) (length b) (length c) in
       let rows : rowsFrom s us ≡ map (D.rowAlone s₀) us = ap (headOr []) e in
@@ -223,23 +249,36 @@ module _ (s₀ : Satellite) where
         ),
         told-of cs (D.outcome s (D.Many ts (length a) (length b) (length c)) .satellite) (D.lastsOf l us) (g .1) (ap tailOf e) (ap tailOf k),
       )
+  told-of (Windows p start seconds samples a b r a′ b′ ∷ cs) s l g e k =
+      let c = asked p start seconds samples a b in
+      let us = W.timesOf x₀ (W.instantsOf c) in
+      let ws : windowsAt s c ≡ W.windowsOf c (map (D.rowAlone s₀) us) = ap (λ z. W.windowsOf c (headOr [] z)) e in
+      let n = ap (headOr 0) k in
+      let f = g .0 in (
+        (
+          f .0 ∙ ap (λ z. answer (W.callRefusal c) 0 (length z) (D.outcome s (D.Windows c) .strides)) ws ∙ ap (answer (W.callRefusal c) 0 (length (W.windowsOf c (map (D.rowAlone s₀) us)))) n,
+          (f .1 .0 ∙ ap (λ z. over (map (λ w. w .first) z) a) ws, f .1 .1 ∙ ap (λ z. over (map (λ w. w .last) z) b) ws),
+        ),
+        told-of cs (D.outcome s (D.Windows c) .satellite) (D.lastsOf l us) (g .1) (ap tailOf e) (ap tailOf k),
+      )
 
   -- the times, the counts and the strides of opening anew, by calls as by requests: a call that puts no request has no time and counts 0
-  times-by : (b : Bool) (t : ℤ) (xs : List ℤ) (rs : List D.Request) → D.times rs ≡ xs → D.times (cond b [] (D.One t ∷ []) ++ rs) ≡ cond b [] (t ∷ []) ++ xs
+  times-by : (b : Bool) (t : ℤ) (xs : List ℤ) (rs : List D.Request) → D.times x₀ rs ≡ xs → D.times x₀ (cond b [] (D.One t ∷ []) ++ rs) ≡ cond b [] (t ∷ []) ++ xs
   times-by true t xs rs e = e
   times-by false t xs rs e = ap (λ l. t ∷ l) e
 
-  times-same : (cs : List Call) → D.times (requestsOf cs) ≡ timesOf cs
+  times-same : (cs : List Call) → D.times x₀ (requestsOf cs) ≡ timesOf x₀ cs
   times-same [] = refl
-  times-same (One t state r state′ ∷ cs) = times-by (ltb (length state) 6) t (timesOf cs) (requestsOf cs) (times-same cs)
+  times-same (One t state r state′ ∷ cs) = times-by (ltb (length state) 6) t (timesOf x₀ cs) (requestsOf cs) (times-same cs)
   times-same (Many ts a b c r a′ b′ c′ ∷ cs) = ap (λ l. listTimes ts (length a) (length b) (length c) ++ l) (times-same cs)
+  times-same (Windows p start seconds samples a b r a′ b′ ∷ cs) = ap (λ l. W.timesOf x₀ (W.instantsOf (asked p start seconds samples a b)) ++ l) (times-same cs)
 
-  sum-by : (b : Bool) (t : ℤ) (l : D.Last) (rs : List D.Request) (n : ℕ) → D.sum (D.counted i (D.lastsOf l (cond b [] (t ∷ []))) rs) ≡ n
-      → D.sum (D.counted i l (cond b [] (D.One t ∷ []) ++ rs)) ≡ D.countsOf i l (cond b [] (t ∷ [])) + n
+  sum-by : (b : Bool) (t : ℤ) (l : D.Last) (rs : List D.Request) (n : ℕ) → D.sum (D.counted x₀ i (D.lastsOf l (cond b [] (t ∷ []))) rs) ≡ n
+      → D.sum (D.counted x₀ i l (cond b [] (D.One t ∷ []) ++ rs)) ≡ D.countsOf i l (cond b [] (t ∷ [])) + n
   sum-by true t l rs n e = omega (arith, e)
   sum-by false t l rs n e = ap (λ k. D.countsOf i l (t ∷ []) + k) e
 
-  sum-same : (cs : List Call) (l : D.Last) → D.sum (D.counted i l (requestsOf cs)) ≡ D.sum (toldStrides s₀ l cs)
+  sum-same : (cs : List Call) (l : D.Last) → D.sum (D.counted x₀ i l (requestsOf cs)) ≡ D.sum (toldStrides s₀ l cs)
   sum-same [] l = refl
   sum-same (One t state r state′ ∷ cs) l =
       let b = ltb (length state) 6 in
@@ -247,22 +286,27 @@ module _ (s₀ : Satellite) where
   sum-same (Many ts a b c r a′ b′ c′ ∷ cs) l =
       let us = listTimes ts (length a) (length b) (length c) in
       ap (λ k. D.countsOf i l us + k) (sum-same cs (D.lastsOf l us))
+  sum-same (Windows p start seconds samples a b r a′ b′ ∷ cs) l =
+      let us = W.timesOf x₀ (W.instantsOf (asked p start seconds samples a b)) in
+      ap (λ k. D.countsOf i l us + k) (sum-same cs (D.lastsOf l us))
 
   abbrev alone : List D.Request → List ℕ
-  alone rs = map (λ r. D.sum (map (D.stridesAlone s₀) (D.ranged (D.rowTimes r)))) rs
+  alone rs = map (λ r. D.sum (map (D.stridesAlone s₀) (D.ranged (D.rowTimes x₀ r)))) rs
 
-  less-by : (b : Bool) (t : ℤ) (l : D.Last) (rs : List D.Request) (xs ys : List ℕ) → (D.NoMore (D.counted i (D.lastsOf l (cond b [] (t ∷ []))) rs) (alone rs) → D.NoMore xs ys)
-      → D.NoMore (D.counted i l (cond b [] (D.One t ∷ []) ++ rs)) (alone (cond b [] (D.One t ∷ []) ++ rs))
+  less-by : (b : Bool) (t : ℤ) (l : D.Last) (rs : List D.Request) (xs ys : List ℕ) → (D.NoMore (D.counted x₀ i (D.lastsOf l (cond b [] (t ∷ []))) rs) (alone rs) → D.NoMore xs ys)
+      → D.NoMore (D.counted x₀ i l (cond b [] (D.One t ∷ []) ++ rs)) (alone (cond b [] (D.One t ∷ []) ++ rs))
       → D.NoMore (D.countsOf i l (cond b [] (t ∷ [])) ∷ xs) (D.sum (map (D.stridesAlone s₀) (D.ranged (cond b [] (t ∷ [])))) ∷ ys)
   less-by true t l rs xs ys f h = (omega arith, f h)
   less-by false t l rs xs ys f h = (h .0, f (h .1))
 
-  less-same : (cs : List Call) (l : D.Last) → D.NoMore (D.counted i l (requestsOf cs)) (alone (requestsOf cs)) → D.NoMore (toldStrides s₀ l cs) (aloneStrides s₀ cs)
+  less-same : (cs : List Call) (l : D.Last) → D.NoMore (D.counted x₀ i l (requestsOf cs)) (alone (requestsOf cs)) → D.NoMore (toldStrides s₀ l cs) (aloneStrides s₀ cs)
   less-same [] l h = tt
   less-same (One t state r state′ ∷ cs) l h =
       let b = ltb (length state) 6 in
       less-by b t l (requestsOf cs) (toldStrides s₀ (D.lastsOf l (cond b [] (t ∷ []))) cs) (aloneStrides s₀ cs) (less-same cs (D.lastsOf l (cond b [] (t ∷ [])))) h
   less-same (Many ts a b c r a′ b′ c′ ∷ cs) l h = (h .0, less-same cs (D.lastsOf l (listTimes ts (length a) (length b) (length c))) (h .1))
+  less-same (Windows p start seconds samples a b r a′ b′ ∷ cs) l h =
+      (h .0, less-same cs (D.lastsOf l (W.timesOf x₀ (W.instantsOf (asked p start seconds samples a b)))) (h .1))
 
 -- requests change nothing but the saved position
 model-after : (rs : List D.Request) (s : Satellite) → after s rs .model ≡ s .model
@@ -270,6 +314,9 @@ model-after [] s = refl
 model-after (D.One t ∷ rs) s = model-after rs (answered s t .satellite)
 model-after (D.Many ts a b c ∷ rs) s =
     let us = listTimes ts a b c in
+    model-after rs (satelliteFrom s us) ∙ sym (model-same s us)
+model-after (D.Windows c ∷ rs) s =
+    let us = W.timesOf (D.epoch s) (W.instantsOf c) in
     model-after rs (satelliteFrom s us) ∙ sym (model-same s us)
 
 -- ── opening ──

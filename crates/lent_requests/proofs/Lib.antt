@@ -1,4 +1,4 @@
 -- The laws that the proofs of the functions share.
 mod Rooms
-mod Loads
-mod Posts
+pub mod Loads
+pub mod Posts

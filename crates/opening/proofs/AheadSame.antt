@@ -2,6 +2,7 @@
 use mathlib.Core.Path.{_≡_, refl, sym, ap, _∙_}
 use mathlib.Core.Bool.{Bool, true, false, cond}
 use lib.Ieee.{Float}
+use Rattle.instant.specs.declared.Instant.{Instant}
 use Rattle.satellite.specs.declared.Elements.{Elements}
 use Rattle.satellite.specs.declared.NearEarth.{NearEarth}
 use Rattle.satellite.specs.declared.DeepSpace.{DeepSpace}
@@ -47,17 +48,17 @@ deep-ahead el i deep epoch gsto eccsq =
     let n = nearEarth el i deep in
     ap (λ (e : Elements). deepSpaceFrom (aheadOf epoch e (e .no)) epoch gsto n eccsq) (sym (elements-of el i deep)) ∙ own epoch gsto n eccsq
 
-pub deep-model : (el : Elements) (i : Initl) (days gsto : Float) (b : Bool) (a : Ahead) (n : NearEarth) (d : DeepSpace)
+pub deep-model : (el : Elements) (i : Initl) (t : Instant) (days gsto : Float) (b : Bool) (a : Ahead) (n : NearEarth) (d : DeepSpace)
     → b ≡ deepSpace i → b ≡ true → a ≡ aheadOf days el (i .no) → n ≡ nearEarth el i true → d ≡ deepSpaceFrom a days gsto n (i .eccsq)
-    → _≡_ {A = Model} (record { near = n; method = method.DeepSpace d }) (modelOf el i days gsto)
+    → _≡_ {A = Model} (record { near = n; method = method.DeepSpace d; epoch = t }) (modelOf el i t days gsto)
 unfolding modelOf
-deep-model el i days gsto b a n d hb ht ha hn hd =
+deep-model el i t days gsto b a n d hb ht ha hn hd =
     let e : deepSpace i ≡ true = sym hb ∙ ht in
-    rw (hd, ha, hn, e) (ap (λ (z : DeepSpace). record { near = nearEarth el i true; method = method.DeepSpace z }) (deep-ahead el i true days gsto (i .eccsq)))
+    rw (hd, ha, hn, e) (ap (λ (z : DeepSpace). record { near = nearEarth el i true; method = method.DeepSpace z; epoch = t }) (deep-ahead el i true days gsto (i .eccsq)))
 
-pub near-model : (el : Elements) (i : Initl) (days gsto : Float) (b : Bool) (n : NearEarth) → b ≡ deepSpace i → b ≡ false → n ≡ nearEarth el i false
-    → _≡_ {A = Model} (record { near = n; method = method.NearEarth }) (modelOf el i days gsto)
+pub near-model : (el : Elements) (i : Initl) (t : Instant) (days gsto : Float) (b : Bool) (n : NearEarth) → b ≡ deepSpace i → b ≡ false → n ≡ nearEarth el i false
+    → _≡_ {A = Model} (record { near = n; method = method.NearEarth; epoch = t }) (modelOf el i t days gsto)
 unfolding modelOf
-near-model el i days gsto b n hb hf hn =
+near-model el i t days gsto b n hb hf hn =
     let e : deepSpace i ≡ false = sym hb ∙ hf in
     rw (hn, e)

@@ -168,5 +168,5 @@ all-finite r s e =
     let a = finiteNear (s .model .near) in
     let b = finiteMethod (s .model .method) in
     let k = finiteKept (s .model .near .kept) in
-    let ab : a && b ≡ true = left (a && b) (finite (greenwichOf (m .micros))) (m .finite-record) in
+    let ab : a && b ≡ true = left (a && b) (finite (greenwichOf (m .when .0))) (m .finite-record) in
     both (a && b && k) (finitePlace (s .place)) (both (a && b) k ab (kept-of r s m (left a b ab))) (place-of r s m (right a b ab))

@@ -1,10 +1,11 @@
 -- What holds of every satellite that opening gives. A satellite that opening gives is newly opened: its place is that of the epoch.
 use Prim.Native.Nat.{ℕ}
-use mathlib.Core.Path.{_≡_, refl, subst}
+use mathlib.Core.Path.{_≡_, refl, sym, ap, _∙_, subst}
 use mathlib.Core.Bool.{Bool, true, false, cond}
 use mathlib.Core.List.{List}
 use lib.Ieee.{lt}
 use Rattle.elementary.specs.Notation.{dec}
+use Rattle.instant.specs.declared.Instant.{Instant}
 use Rattle.instant.specs.declared.Epoch.{Epoch}
 use Rattle.instant.specs.declared.Epoch.the-variants as epoch
 use Rattle.instant.specs.Calendar.{epochOf}
@@ -25,18 +26,20 @@ use Rattle.opening.specs.declared.opening.Opening.the-variants as openin
 use Rattle.opening.specs.declared.opening.PairOpening.{PairOpening}
 use Rattle.opening.specs.declared.opening.PairOpening.the-variants as pair
 use Rattle.opening.specs.Elements.{elementsOf}
+use Rattle.opening.specs.Claims.{KeepsEpoch}
 use Rattle.opening.specs.Opening.{newly, finiteRecord, modelOf, checked, above, started, dated, openOf, opened, afterReading, openPairOf}
 
--- the model of a record whose epoch is t microseconds from 1957
-abbrev pub modelAt : Elements → ℕ → Model
-modelAt el t = modelOf el (initl (el .ecco) (el .inclo) (el .no)) (epochDaysOf t) (greenwichOf t)
+-- the model of a record whose epoch is t
+abbrev pub modelAt : Elements → Instant → Model
+modelAt el t = modelOf el (initl (el .ecco) (el .inclo) (el .no)) t (epochDaysOf (t .0)) (greenwichOf (t .0))
 
 pub record Made (r : Record) (s : Satellite) : Type 0 where
   pub lawful : legal r ≡ true
-  pub micros : ℕ
-  pub model : s .model ≡ modelAt (elementsOf r) micros
+  pub when : Instant
+  pub dated-then : epochOf (r .year) (r .day) ≡ epoch.At when
+  pub model : s .model ≡ modelAt (elementsOf r) when
   pub newly-opened : s ≡ newly (s .model)
-  pub finite-record : finiteRecord (s .model) (greenwichOf micros) ≡ true
+  pub finite-record : finiteRecord (s .model) (greenwichOf (when .0)) ≡ true
 
 -- P of the satellite, where an answer gives one
 abbrev Given : (Satellite → Type 0) → Opening → Type 0
@@ -51,26 +54,30 @@ last : (P : Satellite → Type 0) (b : Bool) (why : Refusal) (x : Opening) → (
 last P true why x p = p refl
 last P false why x p = tt
 
-dated-made : (r : Record) (e : Epoch) → legal r ≡ true → Given (Made r) (dated r e)
+dated-made : (r : Record) (e : Epoch) → legal r ≡ true → epochOf (r .year) (r .day) ≡ e → Given (Made r) (dated r e)
 unfolding dated started above checked newly
-dated-made r (epoch.At t) l =
+dated-made r (epoch.At t) l d =
     let el = elementsOf r in
     let i = initl (el .ecco) (el .inclo) (el .no) in
-    let m = modelAt el (t .0) in
+    let m = modelAt el t in
     let b = finiteRecord m (greenwichOf (t .0)) in
     past (Made r) (lt (i .rp) (dec 1 0)) refusal.Perigee (cond b (opening.Opened (newly m)) (opening.Refused refusal.NotFinite))
     (last (Made r) b refusal.NotFinite (opening.Opened (newly m))
-    (λ h. record { lawful = l; micros = t .0; model = refl; newly-opened = refl; finite-record = h }))
-dated-made r epoch.Outside l = tt
+    (λ h. record { lawful = l; when = t; dated-then = d; model = refl; newly-opened = refl; finite-record = h }))
+dated-made r epoch.Outside l d = tt
 
 open-made : (r : Record) → Given (Made r) (openOf r)
 unfolding openOf
 open-made r =
     let e = epochOf (r .year) (r .day) in
-    last (Made r) (legal r) refusal.Record (dated r e) (λ h. dated-made r e h)
+    last (Made r) (legal r) refusal.Record (dated r e) (λ h. dated-made r e h refl)
 
 pub made : (r : Record) (s : Satellite) → openOf r ≡ opening.Opened s → Made r s
 made r s e = subst (Given (Made r)) e (open-made r)
+
+pub epoch-kept : KeepsEpoch
+unfolding modelOf
+epoch-kept r s e = let m = made r s e in m .dated-then ∙ ap (λ (k : Model). epoch.At (k .epoch)) (sym (m .model))
 
 -- ── two lines ──
 

@@ -5,6 +5,7 @@ use mathlib.Core.Bool.{Bool, true, cond, _&&_}
 use mathlib.Core.List.{List}
 use lib.Ieee.{Float, lt}
 use Rattle.elementary.specs.Notation.{dec, finite}
+use Rattle.instant.specs.declared.Instant.{Instant}
 use Rattle.instant.specs.declared.Epoch.{Epoch}
 use Rattle.instant.specs.declared.Epoch.the-variants as epoch
 use Rattle.instant.specs.Calendar.{epochOf}
@@ -47,12 +48,12 @@ number refusal.NotFinite = 8
 
 -- ── the satellite ──
 
--- what sgp4init fills, of the elements, what initl gives for them, the epoch in days and the Greenwich angle
-unfoldable pub modelOf : Elements → Initl → Float → Float → Model
-modelOf el i days gsto =
+-- what sgp4init fills, of the elements, what initl gives for them, the epoch, its days and its Greenwich angle
+unfoldable pub modelOf : Elements → Initl → Instant → Float → Float → Model
+modelOf el i t days gsto =
     let deep = deepSpace i in
     let near = nearEarth el i deep in
-    record { near = near; method = cond deep (method.DeepSpace (deepSpaceOf days gsto near (i .eccsq))) method.NearEarth }
+    record { near = near; method = cond deep (method.DeepSpace (deepSpaceOf days gsto near (i .eccsq))) method.NearEarth; epoch = t }
 
 -- the place of the epoch: without resonance forward, stride 0 and the pair (0.0, 0.0)
 unfoldable pub epochPlace : Method → Place
@@ -82,16 +83,16 @@ unfoldable pub checked : Model → Float → Opening
 checked m gsto = cond (finiteRecord m gsto) (opening.Opened (newly m)) (opening.Refused refusal.NotFinite)
 
 -- 3048: perigee at epoch below one Earth radius
-unfoldable pub above : Elements → Initl → Float → Float → Opening
-above el i days gsto = cond (lt (i .rp) (dec 1 0)) (opening.Refused refusal.Perigee) (checked (modelOf el i days gsto) gsto)
+unfoldable pub above : Elements → Initl → Instant → Float → Float → Opening
+above el i t days gsto = cond (lt (i .rp) (dec 1 0)) (opening.Refused refusal.Perigee) (checked (modelOf el i t days gsto) gsto)
 
--- of the elements and the microseconds of the epoch
-unfoldable pub started : Elements → ℕ → Opening
-started el t = above el (initl (el .ecco) (el .inclo) (el .no)) (epochDaysOf t) (greenwichOf t)
+-- of the elements and the epoch
+unfoldable pub started : Elements → Instant → Opening
+started el t = above el (initl (el .ecco) (el .inclo) (el .no)) t (epochDaysOf (t .0)) (greenwichOf (t .0))
 
 -- a legal record's epoch is never outside (`epochs-inside` of tle's proofs/Accepted)
 unfoldable pub dated : Record → Epoch → Opening
-dated r (epoch.At t) = started (elementsOf r) (t .0)
+dated r (epoch.At t) = started (elementsOf r) t
 dated r epoch.Outside = opening.Refused refusal.Record
 
 unfoldable pub openOf : Record → Opening

@@ -77,8 +77,8 @@ impl Refusal {
     }
 }
 
-fn model_of(el: Elements, i: Initl, days: Days, gsto: Radians) -> Model
-    ensures { λ r. ⌜ r ≡ O.modelOf el i (days .0) (gsto .0) ⌝ }
+fn model_of(el: Elements, i: Initl, epoch: Instant, days: Days, gsto: Radians) -> Model
+    ensures { λ r. ⌜ r ≡ O.modelOf el i epoch (days .0) (gsto .0) ⌝ }
 {
     if is_deep_space(i) {
         let a = ahead_of(days, el, i.no);
@@ -87,12 +87,14 @@ fn model_of(el: Elements, i: Initl, days: Days, gsto: Radians) -> Model
         return Model {
             near,
             method: Method::DeepSpace(d),
+            epoch,
         };
     }
     let near = near_earth(el, i, false);
     Model {
         near,
         method: Method::NearEarth,
+        epoch,
     }
 }
 
@@ -157,13 +159,13 @@ fn checked(m: Model, gsto: Radians) -> Opening
     Opening::Refused(Refusal::NotFinite)
 }
 
-fn above(el: Elements, i: Initl, days: Days, gsto: Radians) -> Opening
-    ensures { λ r. ⌜ r ≡ O.above el i (days .0) (gsto .0) ⌝ }
+fn above(el: Elements, i: Initl, epoch: Instant, days: Days, gsto: Radians) -> Opening
+    ensures { λ r. ⌜ r ≡ O.above el i epoch (days .0) (gsto .0) ⌝ }
 {
     if i.rp < 1.0 {
         return Opening::Refused(Refusal::Perigee);
     }
-    checked(model_of(el, i, days, gsto), gsto)
+    checked(model_of(el, i, epoch, days, gsto), gsto)
 }
 
 // The days of an instant that is in the calendar: no other comes here.
@@ -192,12 +194,12 @@ fn gsto_of(t: Instant) -> Radians
 
 fn started(el: Elements, t: Instant) -> Opening
     requires { ⌜ inCalendar (t .0) ≡ true ⌝ }
-    ensures { λ r. ⌜ r ≡ O.started el (t .0) ⌝ }
+    ensures { λ r. ⌜ r ≡ O.started el t ⌝ }
 {
     let i = initl(el.ecco, Radians(el.inclo), el.no);
     let days = days_of(t);
     let gsto = gsto_of(t);
-    above(el, i, days, gsto)
+    above(el, i, t, days, gsto)
 }
 
 fn dated(r: Record, epoch: instant::Epoch) -> Opening

@@ -1,6 +1,6 @@
 // The library's boundary to C and Rust: functions on numbers and slices, each a function of a crate
-// below (lent_pairs, lent_fields, lent_changes, lent_opening, lent_requests) under an exported name. A
-// satellite lies in memory that the caller lends (crate storage). include/saddlekerf.h has the same for C.
+// below (those named lent_) under an exported name. A satellite lies in memory that the caller lends
+// (crate storage). include/saddlekerf.h has the same for C.
 ghost use mathlib.Core.Path.{_≡_};
 ghost use Prim.Native.Nat.{_%_};
 ghost use lib.ListN.{length};
@@ -22,6 +22,7 @@ ghost use Rattle.lent_pairs.specs.Records as C;
 ghost use Rattle.lent_pairs.specs.Roster.{lodgingAnswer, withdrawalAnswer, fillingAnswer};
 ghost use Rattle.lent_opening.specs.Opening as O;
 ghost use Rattle.lent_requests.specs.Requests as R;
+ghost use Rattle.lent_windows.specs.Windows as W;
 ghost use Rattle.saddlekerf.specs.Version.{version, boundary};
 use columns::checksum;
 use lent_changes::compare_held;
@@ -38,6 +39,7 @@ use lent_pairs::withdraw_answer;
 use lent_pairs::write_answer;
 use lent_requests::request_held;
 use lent_requests::request_list_held;
+use lent_windows::windows_held;
 use report::numbers::count_text;
 
 // The version of the library, as one number.
@@ -45,16 +47,16 @@ use report::numbers::count_text;
 pub extern "C" fn saddlekerf_version() -> u64
     ensures { λ r. ⌜ r ≡ version ⌝ }
 {
-    300
+    400
 }
 
 // The number of this boundary, which stands in the name too: a header of another boundary refers to
 // another name and does not link.
 #[no_mangle]
-pub extern "C" fn saddlekerf_abi_2() -> u64
+pub extern "C" fn saddlekerf_abi_3() -> u64
     ensures { λ r. ⌜ r ≡ boundary ⌝ }
 {
-    2
+    3
 }
 
 // Reads a pair: 0, or the refusal with its values.
@@ -226,4 +228,22 @@ pub extern "C" fn saddlekerf_request_list(
     ensures { λ r. ⌜ R.ListPost (now (numbers .entry)) (now (marks .entry)) (now (times .entry)) (now (refusals .entry)) (now (states .entry)) (now (rounds .entry)) r (now (numbers .exit)) (now (marks .exit)) (now (refusals .exit)) (now (states .exit)) (now (rounds .exit)) ⌝ }
 {
     request_list_held(numbers, marks, times, refusals, states, rounds)
+}
+
+// Asks the satellite in memory for its windows above a station: their first instants at the front of
+// `firsts`, their last ones at the front of `lasts`.
+#[no_mangle]
+pub extern "C" fn saddlekerf_windows(
+    numbers: &mut [f64],
+    marks: &mut [u32],
+    station: &[f64],
+    start: u64,
+    step: u64,
+    samples: usize,
+    firsts: &mut [u64],
+    lasts: &mut [u64],
+) -> u64
+    ensures { λ r. ⌜ W.WindowsPost (now (numbers .entry)) (now (marks .entry)) (now (station .entry)) start step samples (now (firsts .entry)) (now (lasts .entry)) r (now (numbers .exit)) (now (marks .exit)) (now (firsts .exit)) (now (lasts .exit)) ⌝ }
+{
+    windows_held(numbers, marks, station, start, step, samples, firsts, lasts)
 }

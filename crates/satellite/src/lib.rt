@@ -1,4 +1,5 @@
 // The opened satellite's parts, as structs alone: 002's record (its struct elsetrec) under 002's names.
+use instant::Instant;
 
 // The elements that sgp4init is handed. An opened satellite has them too, `no` then being the mean
 // motion that initl recovers: 002 writes it over the one handed in.
@@ -157,8 +158,10 @@ pub enum Method {
     DeepSpace(DeepSpace),
 }
 
-// Everything about an opened satellite that no request changes.
+// Everything about an opened satellite that no request changes. The epoch, which 002 keeps as jdsatepoch,
+// is the record's instant: from it a request put by instant counts its time.
 pub struct Model {
     pub near: NearEarth,
     pub method: Method,
+    pub epoch: Instant,
 }

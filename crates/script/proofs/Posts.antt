@@ -17,7 +17,7 @@ use Rattle.opening.specs.declared.opening.PairOpening.the-variants as pair
 use Rattle.opening.specs.Opening.{openPairOf}
 use Rattle.opening.proofs.Made.{made-of}
 use Rattle.requests.specs.Lists.{refusalsOf, statesOf, roundsOf, over}
-use Rattle.sequences.specs.Demand3.{Request, Outcome, outcome, rowTimes, run, times, sum, reported, ranged, rowAlone, stridesAlone, NoMore, Demand3}
+use Rattle.sequences.specs.Demand3.{Request, Outcome, outcome, rowTimes, run, times, sum, reported, ranged, rowAlone, stridesAlone, NoMore, epoch, Demand3}
 use Rattle.sequences.proofs.Demand3.{demand-3}
 use Rattle.script.specs.declared.Ran.{Ran}
 use Rattle.script.specs.declared.Ran.the-variants.{Done, Short, Unread, Refused}
@@ -45,9 +45,9 @@ map-append : (f : ℤ → Row) (xs ys : List ℤ) → map f (xs ++ ys) ≡ map f
 map-append f [] ys = refl
 map-append f (x ∷ xs) ys = ap (λ l. f x ∷ l) (map-append f xs ys)
 
-joined-times : (f : ℤ → Row) (rs : List Request) → joined (map (λ r. map f (rowTimes r)) rs) ≡ map f (times rs)
-joined-times f [] = refl
-joined-times f (r ∷ rs) = ap (λ l. map f (rowTimes r) ++ l) (joined-times f rs) ∙ sym (map-append f (rowTimes r) (times rs))
+joined-times : (e : ℕ) (f : ℤ → Row) (rs : List Request) → joined (map (λ r. map f (rowTimes e r)) rs) ≡ map f (times e rs)
+joined-times e f [] = refl
+joined-times e f (r ∷ rs) = ap (λ l. map f (rowTimes e r) ++ l) (joined-times e f rs) ∙ sym (map-append f (rowTimes e r) (times e rs))
 
 length-reported : (s : Satellite) (rs : List Request) → length (reported s rs) ≡ length rs
 length-reported s [] = refl
@@ -56,7 +56,7 @@ length-reported s (r ∷ rs) = ap suc (length-reported (outcome s r .satellite) 
 demanded : (s : Satellite) (rs : List Request) (a : List ℕ) (b : List Float) (c : List ℕ) (d : List ℕ) (a′ : List ℕ) (b′ : List Float) (c′ : List ℕ) (d′ : List ℕ)
     → Demand3 s rs → Left s rs a b c d a′ b′ c′ d′ → Demanded s rs a b c d a′ b′ c′ d′
 demanded s rs a b c d a′ b′ c′ d′ p l =
-    let rows : rowsOf (run s rs) ≡ map (rowAlone s) (times rs) = joined-rows (run s rs) ∙ ap joined (p .rows) ∙ joined-times (rowAlone s) rs in
+    let rows : rowsOf (run s rs) ≡ map (rowAlone s) (times (epoch s) rs) = joined-rows (run s rs) ∙ ap joined (p .rows) ∙ joined-times (epoch s) (rowAlone s) rs in
     let front : take (length rs) d′ ≡ reported s rs =
     ap (λ n. take n d′) (sym (length-reported s rs)) ∙ ap (take (length (reported s rs))) (l .strides)
     ∙ take-append-seam (reported s rs) (drop (length (reported s rs)) d) in
@@ -66,7 +66,7 @@ demanded s rs a b c d a′ b′ c′ d′ p l =
       rounds = l .rounds ∙ ap (λ z. over (roundsOf z) c) rows;
       counts = l .strides ∙ ap (λ z. over z d) (p .counts);
       outward = λ e o. ap sum front ∙ p .outward e o;
-      noMore = subst (λ z. NoMore z (map (λ r. sum (map (stridesAlone s) (ranged (rowTimes r)))) rs)) (sym front) (p .noMore);
+      noMore = subst (λ z. NoMore z (map (λ r. sum (map (stridesAlone s) (ranged (rowTimes (epoch s) r)))) rs)) (sym front) (p .noMore);
     }
 
 -- ── the answers ──

@@ -15,9 +15,9 @@ use Rattle.opening.specs.declared.opening.Satellite.{Satellite}
 use Rattle.requests.specs.declared.ListAnswer.{ListAnswer}
 use Rattle.requests.specs.Request.{answered}
 use Rattle.requests.specs.Lists.{statesOf, refusalsOf, roundsOf, rowsFrom, stridesFrom, satelliteFrom, listRefusal, listTimes, listed, ListPost, over}
-use Rattle.sequences.specs.Demand3.{One, Many, rowTimes}
+use Rattle.sequences.specs.Demand3.{One, Many}
 use Rattle.script_room.specs.Room.{due}
-use Rattle.script.specs.Script.{requestOf, Step}
+use Rattle.script.specs.Script.{requestOf, Step, written}
 
 -- ── a list, in what is left of the rooms ──
 
@@ -34,7 +34,7 @@ module _ {A : Type 0} where
 pub many-step : (s : Satellite) (ts : List ℤ) (rows : ℕ) (a : List ℕ) (b : List Float) (c : List ℕ) (r : ListAnswer) (a″ : List ℕ) (b″ : List Float) (c″ : List ℕ) (k : ℕ)
     → rows ≤ length a → 6 * rows ≤ length b → rows ≤ length c
     → ListPost s ts (midOf rows (length a - rows) a) (midOf (6 * rows) (length b - 6 * rows) b) (midOf rows (length c - rows) c) r a″ b″ c″
-    → (r .refusal ≡ listRefusal (length ts) (length a - rows) (length b - 6 * rows) (length c - rows) → k ≡ length (rowTimes (Many ts (length a - rows) (length b - 6 * rows) (length c - rows))))
+    → (r .refusal ≡ listRefusal (length ts) (length a - rows) (length b - 6 * rows) (length c - rows) → k ≡ length (written (Many ts (length a - rows) (length b - 6 * rows) (length c - rows))))
     → Step s (Many ts (length a - rows) (length b - 6 * rows) (length c - rows)) rows a b c (r .satellite) (r .strides .0) k
     (putMid rows (length a - rows) a a″) (putMid (6 * rows) (length b - 6 * rows) b b″) (putMid rows (length c - rows) c c″)
 many-step s ts rows a b c r a″ b″ c″ k ha hb hc p hk =
@@ -86,7 +86,7 @@ bound-by true us i j k e = list-room (length us) i j k (eqb-true (listRefusal (l
 bound-by false us i j k e = (omega arith, omega arith, omega arith)
 
 pub rows-bound : (n : ℕ) (ts : List ℤ) (i j k : ℕ) → due n ≤ i → 6 * due n ≤ j → due n ≤ k
-    → (length (rowTimes (requestOf n ts i j k)) ≤ i) × (6 * length (rowTimes (requestOf n ts i j k)) ≤ j) × (length (rowTimes (requestOf n ts i j k)) ≤ k)
+    → (length (written (requestOf n ts i j k)) ≤ i) × (6 * length (written (requestOf n ts i j k)) ≤ j) × (length (written (requestOf n ts i j k)) ≤ k)
 rows-bound zero ts i j k a b c = (a, b, c)
 rows-bound (suc n) ts i j k a b c = bound-by (eqb (listRefusal (length (take n ts)) i j k) 0) (take n ts) i j k refl
 

@@ -13,10 +13,10 @@ use lib.Ieee.{Float}
 use Rattle.sgp4.specs.declared.Row.{Row}
 use Rattle.opening.specs.declared.opening.Satellite.{Satellite}
 use Rattle.requests.specs.Lists.{listRefusal, listTimes, stateOf, statesOf, refusalsOf, roundsOf, over}
-use Rattle.sequences.specs.Demand3.{Request, One, Many, Outcome, outcome, rowTimes, run, reported}
+use Rattle.sequences.specs.Demand3.{Request, One, Many, Outcome, outcome, run, reported}
 use Rattle.requests.proofs.Filling.{length-rows, length-refusals, length-rounds, length-states, over-set, length-over}
 use Rattle.script_room.specs.Room.{taken, needed, roomy, due}
-use Rattle.script.specs.Script.{requestOf, script, rowsOf, Step, Left}
+use Rattle.script.specs.Script.{requestOf, script, rowsOf, Step, Left, written}
 use Rattle.script_room.proofs.Room.{next-roomy}
 use Rattle.script.proofs.Rooms.{rows-bound, one-alike}
 
@@ -82,12 +82,12 @@ length-strides : (os : List Outcome) → length (stridesOf os) ≡ length os
 length-strides [] = refl
 length-strides (o ∷ os) = ap suc (length-strides os)
 
-length-outcome : (s : Satellite) (r : Request) → length (outcome s r .rows) ≡ length (rowTimes r)
-length-outcome s (One t) = refl
-length-outcome s (Many ts i j k) = length-rows s (listTimes ts i j k)
+length-outcome : (s : Satellite) (n : ℕ) (ts : List ℤ) (i j k : ℕ) → length (outcome s (requestOf n ts i j k) .rows) ≡ length (written (requestOf n ts i j k))
+length-outcome s zero ts i j k = refl
+length-outcome s (suc n) ts i j k = length-rows s (listTimes (take n ts) i j k)
 
 -- a request takes as many times as it says, and has at most so many rows
-few-rows : (n : ℕ) (ts : List ℤ) (i j k : ℕ) → length (rowTimes (requestOf n ts i j k)) ≤ taken n
+few-rows : (n : ℕ) (ts : List ℤ) (i j k : ℕ) → length (written (requestOf n ts i j k)) ≤ taken n
 unfolding taken
 few-rows zero ts i j k = omega arith
 few-rows (suc n) ts i j k = kept (eqb (listRefusal (length (take n ts)) i j k) 0)
@@ -251,7 +251,7 @@ six-more rows k l h e = omega arith
 -- what the script is from its next request on
 script-next : (s : Satellite) (ns : List ℕ) (ts : List ℤ) (i j k : ℕ) (n : ℕ) → run s (script (n ∷ ns) ts i j k)
     ≡ outcome s (requestOf n ts i j k) ∷ run (outcome s (requestOf n ts i j k) .satellite)
-    (script ns (drop (taken n) ts) (i - length (rowTimes (requestOf n ts i j k))) (j - 6 * length (rowTimes (requestOf n ts i j k))) (k - length (rowTimes (requestOf n ts i j k))))
+    (script ns (drop (taken n) ts) (i - length (written (requestOf n ts i j k))) (j - 6 * length (written (requestOf n ts i j k))) (k - length (written (requestOf n ts i j k))))
 unfolding script
 script-next s ns ts i j k n = refl
 
@@ -291,14 +291,14 @@ running-more s₀ ns ts a₀ b₀ c₀ d₀ a b c d s at rows j z m s′ n k a�
     let more : List Outcome = f .done ++ (o ∷ []) in
     let rowsMore : rowsOf more ≡ rowsOf (f .done) ++ o .rows = rows-snoc (f .done) o in
     let few : k ≤ taken g = subst (λ i. i ≤ taken g) (sym (q .added)) (few-rows g (drop at ts) (length a₀ - rows) (length b₀ - 6 * rows) (length c₀ - rows)) in
-    let ea : length a₀ - rows - length (rowTimes r₀) ≡ length a₀ - (rows + k) = less (length a₀) rows k (length (rowTimes r₀)) (q .added) in
-    let eb : length b₀ - 6 * rows - 6 * length (rowTimes r₀) ≡ length b₀ - 6 * (rows + k) = less-six (length b₀) rows k (length (rowTimes r₀)) (q .added) in
-    let ec : length c₀ - rows - length (rowTimes r₀) ≡ length c₀ - (rows + k) = less (length c₀) rows k (length (rowTimes r₀)) (q .added) in
+    let ea : length a₀ - rows - length (written r₀) ≡ length a₀ - (rows + k) = less (length a₀) rows k (length (written r₀)) (q .added) in
+    let eb : length b₀ - 6 * rows - 6 * length (written r₀) ≡ length b₀ - 6 * (rows + k) = less-six (length b₀) rows k (length (written r₀)) (q .added) in
+    let ec : length c₀ - rows - length (written r₀) ≡ length c₀ - (rows + k) = less (length c₀) rows k (length (written r₀)) (q .added) in
     let et : drop (taken g) (drop at ts) ≡ drop (at + m) ts = drop-drop (taken g) at ts ∙ ap (λ i. drop (at + i) ts) (sym hm) in
-    let rest : run (o .satellite) (script (drop (suc j) ns) (drop (taken g) (drop at ts)) (length a₀ - rows - length (rowTimes r₀)) (length b₀ - 6 * rows - 6 * length (rowTimes r₀)) (length c₀ - rows - length (rowTimes r₀)))
+    let rest : run (o .satellite) (script (drop (suc j) ns) (drop (taken g) (drop at ts)) (length a₀ - rows - length (written r₀)) (length b₀ - 6 * rows - 6 * length (written r₀)) (length c₀ - rows - length (written r₀)))
     ≡ run s′ (script (drop (j + 1) ns) (drop (at + m) ts) (length a₀ - (rows + k)) (length b₀ - 6 * (rows + k)) (length c₀ - (rows + k))) =
-    ap (λ i. run (o .satellite) (script (drop (suc j) ns) (drop (taken g) (drop at ts)) i (length b₀ - 6 * rows - 6 * length (rowTimes r₀)) (length c₀ - rows - length (rowTimes r₀)))) ea
-    ∙ ap (λ i. run (o .satellite) (script (drop (suc j) ns) (drop (taken g) (drop at ts)) (length a₀ - (rows + k)) i (length c₀ - rows - length (rowTimes r₀)))) eb
+    ap (λ i. run (o .satellite) (script (drop (suc j) ns) (drop (taken g) (drop at ts)) i (length b₀ - 6 * rows - 6 * length (written r₀)) (length c₀ - rows - length (written r₀)))) ea
+    ∙ ap (λ i. run (o .satellite) (script (drop (suc j) ns) (drop (taken g) (drop at ts)) (length a₀ - (rows + k)) i (length c₀ - rows - length (written r₀)))) eb
     ∙ ap (λ i. run (o .satellite) (script (drop (suc j) ns) (drop (taken g) (drop at ts)) (length a₀ - (rows + k)) (length b₀ - 6 * (rows + k)) i)) ec
     ∙ ap (λ i. run (o .satellite) (script (drop (suc j) ns) i (length a₀ - (rows + k)) (length b₀ - 6 * (rows + k)) (length c₀ - (rows + k)))) et
     ∙ ap (λ i. run (o .satellite) (script (drop i ns) (drop (at + m) ts) (length a₀ - (rows + k)) (length b₀ - 6 * (rows + k)) (length c₀ - (rows + k)))) (sym (add-one j))
@@ -309,7 +309,7 @@ running-more s₀ ns ts a₀ b₀ c₀ d₀ a b c d s at rows j z m s′ n k a�
     ∙ script-next s (drop (suc j) ns) (drop at ts) (length a₀ - rows) (length b₀ - 6 * rows) (length c₀ - rows) g
     ∙ ap (λ l. o ∷ l) rest in
     let room = next-room z f h in
-    let lk : length (o .rows) ≡ k = length-outcome s r₀ ∙ sym (q .added) in
+    let lk : length (o .rows) ≡ k = length-outcome s g (drop at ts) (length a₀ - rows) (length b₀ - 6 * rows) (length c₀ - rows) ∙ sym (q .added) in
     let bound = rows-bound g (drop at ts) (length a₀ - rows) (length b₀ - 6 * rows) (length c₀ - rows)
     (due-left rows (due g) (length a₀) (length a) (room .1 .0) (f .lenA)) (due-left-six rows (due g) (length b₀) (length b) (room .1 .1 .0) (f .lenB))
     (due-left rows (due g) (length c₀) (length c) (room .1 .1 .1) (f .lenC)) in
@@ -345,7 +345,7 @@ running-more s₀ ns ts a₀ b₀ c₀ d₀ a b c d s at rows j z m s′ n k a�
       took = took-next at m (taken g) (needed (drop j ns)) (needed (drop (j + 1) ns)) (needed ns) (f .took) (needed-drop ns j z h) hm;
       under = under-next rows at k m (taken g) (f .under) few hm;
       count = length-append (f .done) (o ∷ []) ∙ ap (λ i. i + 1) (f .count);
-      long = ap length rowsMore ∙ length-append (rowsOf (f .done)) (o .rows) ∙ ap (λ i. i + length (o .rows)) (f .long) ∙ ap (λ i. rows + i) (length-outcome s r₀ ∙ sym (q .added));
+      long = ap length rowsMore ∙ length-append (rowsOf (f .done)) (o .rows) ∙ ap (λ i. i + length (o .rows)) (f .long) ∙ ap (λ i. rows + i) (length-outcome s g (drop at ts) (length a₀ - rows) (length b₀ - 6 * rows) (length c₀ - rows) ∙ sym (q .added));
       whole = append-snoc (f .done) o _ ∙ ap (λ l. f .done ++ l) (sym next) ∙ f .whole;
       refusals =
           q .refusals ∙ ap (λ l. take rows l ++ over (refusalsOf (o .rows)) (drop rows l)) (f .refusals)

@@ -19,7 +19,8 @@ use Rattle.script.specs.declared.Ran.{Ran}
 use Rattle.script.specs.declared.Ran.the-variants.{Done, Short, Unread, Refused}
 use Rattle.requests.specs.Lists.{refusalsOf, statesOf, roundsOf, over}
 use Rattle.sgp4.specs.declared.Row.{Row}
-use Rattle.sequences.specs.Demand3.{Request, One, Many, Outcome, outcome, rowTimes, run, times, sum, reported, none, counted, ranged, Outward, farthest, rowAlone, stridesAlone, NoMore}
+use Rattle.requests.specs.Lists.{listTimes}
+use Rattle.sequences.specs.Demand3.{Request, One, Many, Windows, Outcome, outcome, rowTimes, run, times, sum, reported, none, counted, ranged, Outward, farthest, rowAlone, stridesAlone, NoMore, epoch}
 
 -- ── the script ──
 
@@ -28,12 +29,18 @@ abbrev pub requestOf : ℕ → List ℤ → ℕ → ℕ → ℕ → Request
 requestOf zero ts a b c = One (getD ts 0 (pos 0))
 requestOf (suc n) ts a b c = Many (take n ts) a b c
 
+-- the times of the rows that a request writes into the rooms; a call for windows writes none, and no script has one yet
+abbrev pub written : Request → List ℤ
+written (One t) = t ∷ []
+written (Many ts a b c) = listTimes ts a b c
+written (Windows c) = []
+
 -- the rows of each request follow those of the one before
 unfoldable pub script : List ℕ → List ℤ → ℕ → ℕ → ℕ → List Request
 script [] ts a b c = []
 script (n ∷ ns) ts a b c =
     let r = requestOf n ts a b c in
-    let k = length (rowTimes r) in
+    let k = length (written r) in
     r ∷ script ns (drop (taken n) ts) (a - k) (b - 6 * k) (c - k)
 
 -- ── what is left in memory ──
@@ -46,7 +53,7 @@ rowsOf (o ∷ os) = o .rows ++ rowsOf os
 pub record Step (s : Satellite) (r : Request) (rows : ℕ) (a : List ℕ) (b : List Float) (c : List ℕ) (s′ : Satellite) (n k : ℕ) (a′ : List ℕ) (b′ : List Float) (c′ : List ℕ) : Type 0 where
   pub satellite : s′ ≡ outcome s r .satellite
   pub strides : n ≡ outcome s r .strides
-  pub added : k ≡ length (rowTimes r)
+  pub added : k ≡ length (written r)
   pub refusals : a′ ≡ take rows a ++ over (refusalsOf (outcome s r .rows)) (drop rows a)
   pub states : b′ ≡ take (6 * rows) b ++ over (statesOf (outcome s r .rows)) (drop (6 * rows) b)
   pub rounds : c′ ≡ take rows c ++ over (roundsOf (outcome s r .rows)) (drop rows c)
@@ -60,12 +67,12 @@ pub record Left (s : Satellite) (rs : List Request) (a : List ℕ) (b : List Flo
 
 -- demand 3 of that memory: s is the satellite newly opened
 pub record Demanded (s : Satellite) (rs : List Request) (a : List ℕ) (b : List Float) (c : List ℕ) (d : List ℕ) (a′ : List ℕ) (b′ : List Float) (c′ : List ℕ) (d′ : List ℕ) : Type 0 where
-  pub refusals : a′ ≡ over (refusalsOf (map (rowAlone s) (times rs))) a
-  pub states : b′ ≡ over (statesOf (map (rowAlone s) (times rs))) b
-  pub rounds : c′ ≡ over (roundsOf (map (rowAlone s) (times rs))) c
-  pub counts : d′ ≡ over (counted (integratorOf (s .model)) none rs) d
-  pub outward : (e : Side) → Outward e 0 (ranged (times rs)) → sum (take (length rs) d′) ≡ wholeStrides (integratorOf (s .model)) (farthest (ranged (times rs)))
-  pub noMore : NoMore (take (length rs) d′) (map (λ r. sum (map (stridesAlone s) (ranged (rowTimes r)))) rs)
+  pub refusals : a′ ≡ over (refusalsOf (map (rowAlone s) (times (epoch s) rs))) a
+  pub states : b′ ≡ over (statesOf (map (rowAlone s) (times (epoch s) rs))) b
+  pub rounds : c′ ≡ over (roundsOf (map (rowAlone s) (times (epoch s) rs))) c
+  pub counts : d′ ≡ over (counted (epoch s) (integratorOf (s .model)) none rs) d
+  pub outward : (e : Side) → Outward e 0 (ranged (times (epoch s) rs)) → sum (take (length rs) d′) ≡ wholeStrides (integratorOf (s .model)) (farthest (ranged (times (epoch s) rs)))
+  pub noMore : NoMore (take (length rs) d′) (map (λ r. sum (map (stridesAlone s) (ranged (rowTimes (epoch s) r)))) rs)
 
 -- what a script answers: `Done`; `Short`, a room or the times too short, and nothing is run; or the refusal of the lines
 unfoldable pub ranOf : Bool → PairOpening → Ran

@@ -29,7 +29,9 @@ use Rattle.opening.specs.Opening.{epochPlace, newly, openOf}
 use Rattle.opening.proofs.Made.{made}
 use Rattle.requests.specs.Request.{reached, choose, inside, outside, asked, answered}
 use Rattle.requests.specs.Lists.{rowsFrom, stridesFrom, satelliteFrom}
-use Rattle.sequences.specs.Demand3.{Request, One, Many, Outcome, outcome, rowTimes, run, times, sum, reported, Last, none, after, countIn, countOf, lastOf, countsOf, lastsOf, counted, keepIf, ranged, Outward, farthest, rowAlone, stridesAlone, NoMore, Demand3}
+use Rattle.windows.specs.Windows.{Call, timesOf, instantsOf, windowsOf}
+use Rattle.windows.specs.Answer.{callTimes}
+use Rattle.sequences.specs.Demand3.{Request, One, Many, Windows, Outcome, outcome, rowTimes, run, times, sum, reported, Last, none, after, countIn, countOf, lastOf, countsOf, lastsOf, counted, keepIf, ranged, Outward, farthest, rowAlone, stridesAlone, windowsAlone, NoMore, epoch, Demand3}
 
 -- ── the invariant: the saved position is that of the last time in range ──
 
@@ -105,32 +107,49 @@ count-list k l (t ∷ ts) = rw (satellite-step k l t, count-step k l t, count-li
 
 -- ── a sequence of requests ──
 
-request-rows : (s : Satellite) (r : Request) → outcome s r .rows ≡ rowsFrom s (rowTimes r)
+request-rows : (s : Satellite) (r : Request) → outcome s r .rows ≡ rowsFrom s (rowTimes (epoch s) r)
 request-rows s (One t) = refl
 request-rows s (Many ts a b c) = refl
+request-rows s (Windows c) = refl
 
-request-strides : (s : Satellite) (r : Request) → outcome s r .strides ≡ stridesFrom s (rowTimes r)
+request-strides : (s : Satellite) (r : Request) → outcome s r .strides ≡ stridesFrom s (rowTimes (epoch s) r)
 request-strides s (One t) = omega arith
 request-strides s (Many ts a b c) = refl
+request-strides s (Windows c) = refl
 
-request-satellite : (s : Satellite) (r : Request) → outcome s r .satellite ≡ satelliteFrom s (rowTimes r)
+request-satellite : (s : Satellite) (r : Request) → outcome s r .satellite ≡ satelliteFrom s (rowTimes (epoch s) r)
 request-satellite s (One t) = refl
 request-satellite s (Many ts a b c) = refl
+request-satellite s (Windows c) = refl
 
-next : (k : Model) (l : Last) (r : Request) → outcome (satelliteAt k l) r .satellite ≡ satelliteAt k (lastsOf l (rowTimes r))
-next k l r = request-satellite (satelliteAt k l) r ∙ satellite-list k l (rowTimes r)
+-- the epoch of a model, which no request changes
+abbrev of : Model → ℕ
+of k = k .epoch .0
 
-rows-run : (k : Model) (l : Last) (rs : List Request) → map (λ o. o .rows) (run (satelliteAt k l) rs) ≡ map (λ r. map (rowAlone (satelliteAt k none)) (rowTimes r)) rs
+next : (k : Model) (l : Last) (r : Request) → outcome (satelliteAt k l) r .satellite ≡ satelliteAt k (lastsOf l (rowTimes (of k) r))
+next k l r = request-satellite (satelliteAt k l) r ∙ satellite-list k l (rowTimes (of k) r)
+
+rows-run : (k : Model) (l : Last) (rs : List Request) → map (λ o. o .rows) (run (satelliteAt k l) rs) ≡ map (λ r. map (rowAlone (satelliteAt k none)) (rowTimes (of k) r)) rs
 rows-run k l [] = refl
 rows-run k l (r ∷ rs) =
-    rw (next k l r, rows-run k (lastsOf l (rowTimes r)) rs)
-    (ap (λ x. x ∷ map (λ r. map (rowAlone (satelliteAt k none)) (rowTimes r)) rs) (request-rows (satelliteAt k l) r ∙ rows-list k l (rowTimes r)))
+    rw (next k l r, rows-run k (lastsOf l (rowTimes (of k) r)) rs)
+    (ap (λ x. x ∷ map (λ r. map (rowAlone (satelliteAt k none)) (rowTimes (of k) r)) rs) (request-rows (satelliteAt k l) r ∙ rows-list k l (rowTimes (of k) r)))
 
-counts-run : (k : Model) (l : Last) (rs : List Request) → reported (satelliteAt k l) rs ≡ counted (integratorOf k) l rs
+-- a call's windows are those of the rows of newly opened satellites
+request-windows : (k : Model) (l : Last) (r : Request) → outcome (satelliteAt k l) r .windows ≡ windowsAlone (satelliteAt k none) r
+request-windows k l (One t) = refl
+request-windows k l (Many ts a b c) = refl
+request-windows k l (Windows c) = ap (windowsOf c) (rows-list k l (timesOf (of k) (instantsOf c)))
+
+windows-run : (k : Model) (l : Last) (rs : List Request) → map (λ o. o .windows) (run (satelliteAt k l) rs) ≡ map (windowsAlone (satelliteAt k none)) rs
+windows-run k l [] = refl
+windows-run k l (r ∷ rs) = rw (next k l r, windows-run k (lastsOf l (rowTimes (of k) r)) rs, request-windows k l r)
+
+counts-run : (k : Model) (l : Last) (rs : List Request) → reported (satelliteAt k l) rs ≡ counted (of k) (integratorOf k) l rs
 counts-run k l [] = refl
 counts-run k l (r ∷ rs) =
-    rw (next k l r, counts-run k (lastsOf l (rowTimes r)) rs)
-    (ap (λ n. n ∷ counted (integratorOf k) (lastsOf l (rowTimes r)) rs) (request-strides (satelliteAt k l) r ∙ count-list k l (rowTimes r)))
+    rw (next k l r, counts-run k (lastsOf l (rowTimes (of k) r)) rs)
+    (ap (λ n. n ∷ counted (of k) (integratorOf k) (lastsOf l (rowTimes (of k) r)) rs) (request-strides (satelliteAt k l) r ∙ count-list k l (rowTimes (of k) r)))
 
 -- ── no request reports more than opening anew for each of its times in range ──
 
@@ -154,9 +173,9 @@ less-list : (k : Model) (l : Last) (ts : List ℤ) → countsOf (integratorOf k)
 less-list k l [] = omega arith
 less-list k l (t ∷ ts) = less-by k l t (countsOf (integratorOf k) (lastOf l t) ts) (ranged ts) (less-list k (lastOf l t) ts) (inRange t) refl
 
-less-run : (k : Model) (l : Last) (rs : List Request) → NoMore (counted (integratorOf k) l rs) (map (λ r. sum (map (stridesAlone (satelliteAt k none)) (ranged (rowTimes r)))) rs)
-less-run k l [] = tt
-less-run k l (r ∷ rs) = (less-list k l (rowTimes r), less-run k (lastsOf l (rowTimes r)) rs)
+less-run : (e : ℕ) (k : Model) (l : Last) (rs : List Request) → NoMore (counted e (integratorOf k) l rs) (map (λ r. sum (map (stridesAlone (satelliteAt k none)) (ranged (rowTimes e r)))) rs)
+less-run e k l [] = tt
+less-run e k l (r ∷ rs) = (less-list k l (rowTimes e r), less-run e k (lastsOf l (rowTimes e r)) rs)
 
 -- ── one-sided and outward: the total ──
 
@@ -164,9 +183,9 @@ counts-append : (i : Integrator) (l : Last) (ts us : List ℤ) → countsOf i l 
 counts-append i l [] us = omega arith
 counts-append i l (t ∷ ts) us = omega (arith, counts-append i (lastOf l t) ts us)
 
-sum-counts : (i : Integrator) (l : Last) (rs : List Request) → sum (counted i l rs) ≡ countsOf i l (times rs)
-sum-counts i l [] = refl
-sum-counts i l (r ∷ rs) = omega (arith, counts-append i l (rowTimes r) (times rs), sum-counts i (lastsOf l (rowTimes r)) rs)
+sum-counts : (e : ℕ) (i : Integrator) (l : Last) (rs : List Request) → sum (counted e i l rs) ≡ countsOf i l (times e rs)
+sum-counts e i l [] = refl
+sum-counts e i l (r ∷ rs) = omega (arith, counts-append i l (rowTimes e r) (times e rs), sum-counts e i (lastsOf l (rowTimes e r)) rs)
 
 mono-by : (b : Bool) (x y : ℕ) → x ≤ y → cond b (x / 43200000000) 0 ≤ cond b (y / 43200000000) 0
 mono-by true x y h = omega arith
@@ -244,9 +263,10 @@ total i d ts o =
 at-start : (k : Model) (rs : List Request) → Demand3 (satelliteAt k none) rs
 at-start k rs = record {
   rows = rows-run k none rs;
+  windows = windows-run k none rs;
   counts = counts-run k none rs;
-  outward = λ d o. ap sum (counts-run k none rs) ∙ sum-counts (integratorOf k) none rs ∙ total (integratorOf k) d (times rs) o;
-  noMore = rw (counts-run k none rs) (less-run k none rs);
+  outward = λ d o. ap sum (counts-run k none rs) ∙ sum-counts (of k) (integratorOf k) none rs ∙ total (integratorOf k) d (times (of k) rs) o;
+  noMore = rw (counts-run k none rs) (less-run (of k) k none rs);
 }
 
 -- of a satellite that stands at its epoch

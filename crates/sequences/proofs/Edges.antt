@@ -23,7 +23,7 @@ use Rattle.opening.specs.declared.opening.Satellite.{Satellite}
 use Rattle.opening.specs.declared.opening.Opening.the-variants as opening
 use Rattle.opening.specs.Opening.{openOf}
 use Rattle.requests.specs.Request.{choose, inside, outside, asked}
-use Rattle.sequences.specs.Demand3.{Request, One, reported, counted, none}
+use Rattle.sequences.specs.Demand3.{Request, One, reported, counted, none, epoch}
 use Rattle.sequences.specs.Edges.{Edge, edges, refusedNine, Each}
 use Rattle.sequences.proofs.Demand3.{from-epoch, opened-place}
 
@@ -60,18 +60,18 @@ nines s [] = refl
 nines s (t ∷ ts) = rw (nine s t, nines s ts)
 
 -- the same of the times alone, and of the count
-Counted : Integrator → List Edge → Type 0
-Counted i [] = Unit {0}
-Counted i (e ∷ es) = (map (λ t. not (inRange t)) (e .times) ≡ e .nine) × (counted i none (map One (e .times)) ≡ e .strides) × Counted i es
+Counted : ℕ → Integrator → List Edge → Type 0
+Counted x i [] = Unit {0}
+Counted x i (e ∷ es) = (map (λ t. not (inRange t)) (e .times) ≡ e .nine) × (counted x i none (map One (e .times)) ≡ e .strides) × Counted x i es
 
-counts : (i : Integrator) → resonant (i .resonance) ≡ true → Counted i edges
+counts : (x : ℕ) (i : Integrator) → resonant (i .resonance) ≡ true → Counted x i edges
 unfolding edges Counted wholeStrides inRange
-counts i h = (refl, rw h, (refl, refl, (refl, rw h, (refl, rw h, tt))))
+counts x i h = (refl, rw h, (refl, refl, (refl, rw h, (refl, rw h, tt))))
 
-each : (s : Satellite) → s .place ≡ epochOf (integratorOf (s .model)) → (es : List Edge) → Counted (integratorOf (s .model)) es → Each s es
+each : (s : Satellite) → s .place ≡ epochOf (integratorOf (s .model)) → (es : List Edge) → Counted (epoch s) (integratorOf (s .model)) es → Each s es
 unfolding Counted Each
 each s n [] c = tt
 each s n (e ∷ es) c = (nines s (e .times) ∙ c .0, from-epoch s n (map One (e .times)) .counts ∙ c .1, each s n es (c .2))
 
 pub edges-hold : (r : Record) (s : Satellite) → openOf r ≡ opening.Opened s → resonant (integratorOf (s .model) .resonance) ≡ true → Each s edges
-edges-hold r s o h = each s (opened-place r s o) edges (counts (integratorOf (s .model)) h)
+edges-hold r s o h = each s (opened-place r s o) edges (counts (epoch s) (integratorOf (s .model)) h)

@@ -2,8 +2,8 @@
 use mathlib.Core.Path.{_≡_, refl, sym, ap, _∙_, subst, fun-ext}
 use mathlib.Core.Bool.{Bool, true, false, cond}
 use mathlib.Core.List.{map}
-use Prim.Native.Nat.{ℕ}
 use lib.IntN.{ℤ}
+use Rattle.instant.specs.declared.Instant.{Instant}
 use Rattle.instant.specs.Greenwich.{epochDaysOf, greenwichOf}
 use Rattle.satellite.specs.declared.Elements.{Elements}
 use Rattle.satellite.specs.declared.Model.{Model}
@@ -23,18 +23,18 @@ use Rattle.opening.specs.Elements.{elementsOf}
 use Rattle.opening.specs.Opening.{modelOf, openOf}
 use Rattle.opening.proofs.Made.{modelAt, made}
 use Rattle.requests.specs.Request.{reached, choose, inside, outside, asked}
-use Rattle.sequences.specs.Demand3.{rowTimes, rowAlone}
+use Rattle.sequences.specs.Demand3.{rowTimes, rowAlone, epoch}
 use Rattle.sequences.specs.Claims.{OpenedPlain, plainRow, AnsweredPlain}
 use Rattle.sequences.proofs.Demand3.{from-epoch, opened-place}
 
-model-as-computed : (el : Elements) (t : ℕ) → AsComputed (modelAt el t .near)
+model-as-computed : (el : Elements) (t : Instant) → AsComputed (modelAt el t .near)
 unfolding modelOf
 model-as-computed el t = kept-as-computed el (deepSpace (initl (el .ecco) (el .inclo) (el .no)))
 
 pub plain-rows : OpenedPlain
 plain-rows r s h =
     let m = made r s h in
-    rows-as-computed (s .model) (subst (λ (k : Model). AsComputed (k .near)) (sym (m .model)) (model-as-computed (elementsOf r) (m .micros)))
+    rows-as-computed (s .model) (subst (λ (k : Model). AsComputed (k .near)) (sym (m .model)) (model-as-computed (elementsOf r) (m .when)))
 
 plain-by : (k : Model) (p : Place) (t : ℤ) (b : Bool) → PlainRows k
     → choose b (inside k p t) (outside p) .row ≡ cond b (rowAt k (reached k p t .place) t) (refusedRow 9)
@@ -48,4 +48,4 @@ plain-alone s h t = plain-by (s .model) (s .place) t (inRange t) h
 pub plain-answers : AnsweredPlain
 plain-answers r s h rs =
     from-epoch s (opened-place r s h) rs .rows
-    ∙ ap (λ (f : ℤ → Row). map (λ q. map f (rowTimes q)) rs) (fun-ext (plain-alone s (plain-rows r s h)))
+    ∙ ap (λ (f : ℤ → Row). map (λ q. map f (rowTimes (epoch s) q)) rs) (fun-ext (plain-alone s (plain-rows r s h)))

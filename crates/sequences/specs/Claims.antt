@@ -13,7 +13,7 @@ use Rattle.opening.specs.declared.opening.Satellite.{Satellite}
 use Rattle.opening.specs.declared.opening.Opening.the-variants.{Opened}
 use Rattle.opening.specs.Opening.{openOf}
 use Rattle.requests.specs.Request.{reached}
-use Rattle.sequences.specs.Demand3.{Request, rowTimes, run}
+use Rattle.sequences.specs.Demand3.{Request, rowTimes, run, epoch}
 
 -- at every position and time the row of an opened satellite is, bit for bit, `rowAt`, the row of 002's own expressions (`plain-rows`)
 abbrev pub OpenedPlain : Type 0
@@ -27,4 +27,4 @@ plainRow s t = cond (inRange t) (rowAt (s .model) (reached (s .model) (s .place)
 abbrev pub AnsweredPlain : Type 0
 AnsweredPlain =
     (r : Record) (s : Satellite) → openOf r ≡ Opened s
-    → (rs : List Request) → map (λ o. o .rows) (run s rs) ≡ map (λ q. map (plainRow s) (rowTimes q)) rs
+    → (rs : List Request) → map (λ o. o .rows) (run s rs) ≡ map (λ q. map (plainRow s) (rowTimes (epoch s) q)) rs

@@ -12,7 +12,7 @@ use request_line::Request;
 use request_line::read_request;
 use streams::print;
 
-fn answer_one(failed: &mut bool, numbers: &mut [f64; 83], marks: &mut [u32; 4], time: i64)
+fn answer_one(failed: &mut bool, numbers: &mut [f64; 83], marks: &mut [u32; 6], time: i64)
     ensures { λ _. ⌜ (now (failed .entry) ≡ true → now (failed .exit) ≡ true) ⌝ }
 {
     let mut state = [0f64; 6];
@@ -20,7 +20,7 @@ fn answer_one(failed: &mut bool, numbers: &mut [f64; 83], marks: &mut [u32; 4], 
     print_answer(failed, answer, state);
 }
 
-fn answer_list(failed: &mut bool, numbers: &mut [f64; 83], marks: &mut [u32; 4], times: &[i64])
+fn answer_list(failed: &mut bool, numbers: &mut [f64; 83], marks: &mut [u32; 6], times: &[i64])
     ensures { λ _. ⌜ (now (failed .entry) ≡ true → now (failed .exit) ≡ true) ⌝ }
 {
     let mut refusals = [0u8; 1024];
@@ -47,7 +47,7 @@ fn listed(n: usize) -> usize
     1100
 }
 
-pub(crate) fn answer(failed: &mut bool, numbers: &mut [f64; 83], marks: &mut [u32; 4], line: &[u8])
+pub(crate) fn answer(failed: &mut bool, numbers: &mut [f64; 83], marks: &mut [u32; 6], line: &[u8])
     ensures { λ _. ⌜ (now (failed .entry) ≡ true → now (failed .exit) ≡ true) ⌝ }
 {
     let mut times = [0i64; 1100];

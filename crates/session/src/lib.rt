@@ -28,7 +28,7 @@ fn open(
     line1: &[u8],
     line2: &[u8],
     numbers: &mut [f64; 83],
-    marks: &mut [u32; 4],
+    marks: &mut [u32; 6],
 ) -> Stage
     ensures { λ _. ⌜ (now (failed .entry) ≡ true → now (failed .exit) ≡ true) ⌝ }
 {
@@ -48,7 +48,7 @@ fn open_kept(
     size: usize,
     line: &[u8],
     numbers: &mut [f64; 83],
-    marks: &mut [u32; 4],
+    marks: &mut [u32; 6],
 ) -> Stage
     ensures { λ _. ⌜ (now (failed .entry) ≡ true → now (failed .exit) ≡ true) ⌝ }
 {
@@ -78,7 +78,7 @@ fn take_line(
     room: &[u8],
     size: usize,
     numbers: &mut [f64; 83],
-    marks: &mut [u32; 4],
+    marks: &mut [u32; 6],
 ) -> Stage
     ensures { λ _. ⌜ (now (failed .entry) ≡ true → now (failed .exit) ≡ true) ⌝ }
 {
@@ -112,7 +112,7 @@ fn run(
     failed: &mut bool,
     many: bool,
     numbers: &mut [f64; 83],
-    marks: &mut [u32; 4],
+    marks: &mut [u32; 6],
     first: &mut [u8; 70],
     buffer: &mut [u8; 4096],
     line: &mut [u8; 65536],
@@ -140,7 +140,7 @@ pub fn answer_input(failed: &mut bool, many: bool)
     ensures { λ _. ⌜ (now (failed .entry) ≡ true → now (failed .exit) ≡ true) ⌝ }
 {
     let mut numbers = [0f64; 83];
-    let mut marks = [0u32; 4];
+    let mut marks = [0u32; 6];
     let mut first = [0u8; 70];
     let mut buffer = io::buffer();
     let mut line = io::large_buffer();

@@ -1,17 +1,18 @@
--- A satellite in memory that a caller lends: 83 f64s and 4 whole numbers. Definitions only.
+-- A satellite in memory that a caller lends: 83 f64s and 6 whole numbers of 32 bits. Definitions only.
 --
 --   numbers  0-1 xli, xni of the saved position; 2-8 elements; 9-17 drag; 18-23 higher; 24-27 rates; 28-32 terms; 33-35 kept;
 --            36-40 secular rates; 41-52 Sun; 53-64 Moon; 65-66 zmos, zmol; 67-72 integrator; 73-82 its coefficients
---   marks    0 side; 1 stride number; 2 isimp; 3 kind
+--   marks    0 side; 1 stride number; 2 isimp; 3 kind; 4-5 the epoch's instant, its low and its high 32 bits
 --
 -- A near-Earth satellite has +0.0 from 36 on, and one that has fewer than ten coefficients after them.
-use Prim.Native.Nat.{ℕ, _+_}
+use Prim.Native.Nat.{ℕ, _+_, _*_, _/_, _%_}
 use mathlib.Core.Bool.{Bool, true, false, cond, not, _||_}
 use mathlib.Core.List.{List, [], _∷_, _++_}
 use lib.Dec.{eqb, ltb}
 use lib.ListN.{length, drop, getD, replicate}
 use lib.IntN.{pos}
 use lib.Ieee.{Float, nan, fin}
+use Rattle.instant.specs.declared.Instant.{Instant}
 use Rattle.satellite.specs.declared.Elements.{Elements}
 use Rattle.satellite.specs.declared.Drag.{Drag}
 use Rattle.satellite.specs.declared.Higher.{Higher}
@@ -123,8 +124,12 @@ abbrev pub methodMark : Method → ℕ
 methodMark method.NearEarth = 0
 methodMark (method.DeepSpace d) = resonanceMark (d .integrator .resonance)
 
+-- an instant: its low and its high 32 bits
+abbrev pub epochMarks : Instant → List ℕ
+epochMarks t = t .0 % 4294967296 ∷ t .0 / 4294967296 ∷ []
+
 unfoldable pub modelMarks : Model → List ℕ
-modelMarks k = isimpMark (k .near .isimp) ∷ methodMark (k .method) ∷ []
+modelMarks k = isimpMark (k .near .isimp) ∷ methodMark (k .method) ∷ epochMarks (k .epoch)
 
 unfoldable pub placeMarks : Place → List ℕ
 placeMarks p = sideMark (p .side) ∷ p .strides .0 ∷ []
@@ -256,9 +261,13 @@ sideAt m = cond (eqb m 0) side.Forward side.Back
 unfoldable pub placeAt : List Float → List ℕ → Place
 placeAt ns ms = record { side = sideAt (getD ms 0 0); strides = record { 0 = getD ms 1 0 }; xli = getD ns 0 nan; xni = getD ns 1 nan }
 
+-- any two marks are an instant
+abbrev pub epochAt : ℕ → ℕ → Instant
+epochAt low high = record { 0 = low + 4294967296 * high }
+
 -- isimp is 0 where the mark is, and 1 at any other number
 unfoldable pub modelAt : List Float → List ℕ → Model
-modelAt ns ms = record { near = nearEarthAt ns (not (eqb (getD ms 2 0) 0)); method = methodAt ns (getD ms 3 0) }
+modelAt ns ms = record { near = nearEarthAt ns (not (eqb (getD ms 2 0) 0)); method = methodAt ns (getD ms 3 0); epoch = epochAt (getD ms 4 0) (getD ms 5 0) }
 
 unfoldable pub satelliteOf : List Float → List ℕ → Satellite
 satelliteOf ns ms = record { model = modelAt ns ms; place = placeAt ns ms }
@@ -266,7 +275,7 @@ satelliteOf ns ms = record { model = modelAt ns ms; place = placeAt ns ms }
 -- ── what loading gives and what storing leaves: document 01's refusal 17 where the memory is too short, and nothing is written ──
 
 unfoldable pub tooShort : ℕ → ℕ → Bool
-tooShort n m = ltb n 83 || ltb m 4
+tooShort n m = ltb n 83 || ltb m 6
 
 unfoldable pub loadingOf : List Float → List ℕ → Loading
 loadingOf ns ms = cond (tooShort (length ns) (length ms)) RoomTooShort (Loaded (satelliteOf ns ms))
@@ -285,7 +294,7 @@ unfoldable pub storedNumbers : Satellite → List Float → List ℕ → List Fl
 storedNumbers s ns ms = cond (tooShort (length ns) (length ms)) ns (numbersOf s ++ drop 83 ns)
 
 unfoldable pub storedMarks : Satellite → List Float → List ℕ → List ℕ
-storedMarks s ns ms = cond (tooShort (length ns) (length ms)) ms (marksOf s ++ drop 4 ms)
+storedMarks s ns ms = cond (tooShort (length ns) (length ms)) ms (marksOf s ++ drop 6 ms)
 
 unfoldable pub placedNumbers : Place → List Float → List ℕ → List Float
 placedNumbers p ns ms = cond (tooShort (length ns) (length ms)) ns (placeNumbers p ++ drop 2 ns)

@@ -5,6 +5,7 @@ ghost use mathlib.Core.Path.{_≡_};
 ghost use Prim.Native.Nat.{_≤_};
 ghost use lib.ListN.{length};
 ghost use Rattle.storage.specs.Storage as S;
+use instant::Instant;
 use instant::Strides;
 use opening::opening::Satellite;
 use resonance::place::Place;
@@ -289,10 +290,17 @@ fn side_at(mark: u32) -> Side
     Side::Back
 }
 
+// An instant from its low and its high 32 bits: any two are one.
+fn epoch_at(low: u32, high: u32) -> Instant
+    ensures { λ r. ⌜ r ≡ S.epochAt low high ⌝ }
+{
+    Instant(low as u64 + 4294967296 * (high as u64))
+}
+
 // The satellite of a room that is long enough.
 fn held(numbers: &[f64], marks: &[u32]) -> Satellite
     requires { ⌜ 83 ≤ length (now numbers) ⌝ }
-    requires { ⌜ 4 ≤ length (now marks) ⌝ }
+    requires { ⌜ 6 ≤ length (now marks) ⌝ }
     ensures { λ r. ⌜ r ≡ S.satelliteOf (now (numbers .entry)) (now (marks .entry)) ⌝ }
 {
     let kind = marks[3];
@@ -305,7 +313,12 @@ fn held(numbers: &[f64], marks: &[u32]) -> Satellite
         xli: numbers[0],
         xni: numbers[1],
     };
-    let model = Model { near, method };
+    let epoch = epoch_at(marks[4], marks[5]);
+    let model = Model {
+        near,
+        method,
+        epoch,
+    };
     Satellite { model, place }
 }
 
@@ -316,7 +329,7 @@ pub fn load(numbers: &[f64], marks: &[u32]) -> Loading
     if numbers.len() < 83 {
         return Loading::RoomTooShort;
     }
-    if marks.len() < 4 {
+    if marks.len() < 6 {
         return Loading::RoomTooShort;
     }
     Loading::Loaded(held(numbers, marks))

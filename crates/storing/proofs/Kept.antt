@@ -2,11 +2,12 @@
 use mathlib.Core.Path.{_≡_, refl, ap, _∙_}
 use mathlib.Core.Bool.{Bool, true, false, not}
 use mathlib.Core.List.{List, [], _∷_, _++_}
-use Prim.Native.Nat.{ℕ, _≤_}
+use Prim.Native.Nat.{ℕ, _+_, _*_, _/_, _%_, _≤_}
 use native.Mathlib.Omega.{arith}
 use lib.Dec.{eqb}
 use lib.ListN.{length, drop, length-append, length-drop}
 use lib.Ieee.{Float}
+use Rattle.instant.specs.declared.Instant.{Instant}
 use Rattle.satellite.specs.declared.DeepSpace.{DeepSpace}
 use Rattle.satellite.specs.declared.NearEarth.{NearEarth}
 use Rattle.satellite.specs.declared.Integrator.{Integrator}
@@ -21,7 +22,7 @@ use Rattle.resonance.specs.declared.place.Side.the-variants as side
 use Rattle.opening.specs.declared.opening.Satellite.{Satellite}
 use Rattle.storage.specs.Storage.{placeNumbers, nearNumbers, lunarSolarNumbers, integratorNumbers, deepNumbers, methodNumbers, modelNumbers, numbersOf}
 use Rattle.storage.specs.Storage.{sideMark, isimpMark, resonanceMark, methodMark, modelMarks, placeMarks, marksOf}
-use Rattle.storage.specs.Storage.{nearEarthAt, lunarSolarAt, resonanceAt, integratorAt, deepSpaceAt, methodAt, sideAt, placeAt, modelAt, satelliteOf}
+use Rattle.storage.specs.Storage.{nearEarthAt, lunarSolarAt, resonanceAt, integratorAt, deepSpaceAt, methodAt, sideAt, placeAt, epochAt, modelAt, satelliteOf}
 use Rattle.storage.specs.Storage.{tooShort, loadingOf, storedNumbers, storedMarks, placedNumbers, placedMarks}
 use Rattle.storage.specs.declared.Loading.the-variants.{Loaded}
 use Rattle.storing.proofs.Rooms.{enough, length-numbers, length-marks}
@@ -34,6 +35,9 @@ side-kept side.Back = refl
 isimp-kept : (b : Bool) → not (eqb (isimpMark b) 0) ≡ b
 isimp-kept false = refl
 isimp-kept true = refl
+
+epoch-kept : (t : Instant) → epochAt (t .0 % 4294967296) (t .0 / 4294967296) ≡ t
+epoch-kept t = let e : t .0 % 4294967296 + 4294967296 * (t .0 / 4294967296) ≡ t .0 = omega arith in ap (λ (n : ℕ). record { 0 = n }) e
 
 abbrev resonant : DeepSpace → Resonance → DeepSpace
 resonant d r =
@@ -60,19 +64,20 @@ method-kept p n (method.DeepSpace d) ns = deep-kept p n d (d .integrator .resona
 
 -- ── a satellite ──
 
-abbrev changed : Satellite → Bool → Method → Side → Satellite
-changed s b m x =
+abbrev changed : Satellite → Bool → Method → Instant → Side → Satellite
+changed s b m t x =
     let n = s .model .near in
     let p = s .place in
     record {
       model = record {
         near = record { elements = n .elements; isimp = b; drag = n .drag; higher = n .higher; rates = n .rates; terms = n .terms; kept = n .kept };
         method = m;
+        epoch = t;
       };
       place = record { side = x; strides = p .strides; xli = p .xli; xni = p .xni };
     }
 
-pub kept : (s : Satellite) (ns : List Float) (ms : List ℕ) → satelliteOf (numbersOf s ++ drop 83 ns) (marksOf s ++ drop 4 ms) ≡ s
+pub kept : (s : Satellite) (ns : List Float) (ms : List ℕ) → satelliteOf (numbersOf s ++ drop 83 ns) (marksOf s ++ drop 6 ms) ≡ s
 unfolding satelliteOf modelAt placeAt nearEarthAt numbersOf marksOf placeNumbers placeMarks modelNumbers modelMarks nearNumbers
 kept s ns ms =
     let b = s .model .near .isimp in
@@ -80,7 +85,12 @@ kept s ns ms =
     let x = s .place .side in
     let m′ = methodAt (numbersOf s ++ drop 83 ns) (methodMark m) in
     let x′ = sideAt (sideMark x) in
-    ap (λ c. changed s c m′ x′) (isimp-kept b) ∙ ap (λ k. changed s b k x′) (method-kept (s .place) (s .model .near) m (drop 83 ns)) ∙ ap (changed s b m) (side-kept x)
+    let t = s .model .epoch in
+    let t′ = epochAt (t .0 % 4294967296) (t .0 / 4294967296) in
+    ap (λ c. changed s c m′ t′ x′) (isimp-kept b)
+    ∙ ap (λ k. changed s b k t′ x′) (method-kept (s .place) (s .model .near) m (drop 83 ns))
+    ∙ ap (λ u. changed s b m u x′) (epoch-kept t)
+    ∙ ap (changed s b m t) (side-kept x)
 
 -- ── a saved position ──
 
@@ -105,12 +115,12 @@ placed p ns ms =
 
 -- ── what the functions leave in memory that is long enough, loaded ──
 
-module _ (ns : List Float) (ms : List ℕ) (h : 83 ≤ length ns) (k : 4 ≤ length ms) where
+module _ (ns : List Float) (ms : List ℕ) (h : 83 ≤ length ns) (k : 6 ≤ length ms) where
   pub stored-loads : (s : Satellite) → loadingOf (storedNumbers s ns ms) (storedMarks s ns ms) ≡ Loaded s
   unfolding loadingOf storedNumbers storedMarks
   stored-loads s =
-      let e = enough (length (numbersOf s ++ drop 83 ns)) (length (marksOf s ++ drop 4 ms))
-      (omega (arith, length-append (numbersOf s) (drop 83 ns), length-numbers s)) (omega (arith, length-append (marksOf s) (drop 4 ms), length-marks s)) in
+      let e = enough (length (numbersOf s ++ drop 83 ns)) (length (marksOf s ++ drop 6 ms))
+      (omega (arith, length-append (numbersOf s) (drop 83 ns), length-numbers s)) (omega (arith, length-append (marksOf s) (drop 6 ms), length-marks s)) in
       rw (enough (length ns) (length ms) h k, e) (ap Loaded (kept s ns ms))
 
   pub placed-loads : (p : Place) → loadingOf (placedNumbers p ns ms) (placedMarks p ns ms) ≡ Loaded (record { model = satelliteOf ns ms .model; place = p })

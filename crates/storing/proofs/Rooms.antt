@@ -17,13 +17,13 @@ pub few-numbers : (n m : ℕ) → n < 83 → tooShort n m ≡ true
 unfolding tooShort
 few-numbers n m h = simp (lt-ltb n 83 h)
 
-pub few-marks : (n m : ℕ) → 83 ≤ n → m < 4 → tooShort n m ≡ true
+pub few-marks : (n m : ℕ) → 83 ≤ n → m < 6 → tooShort n m ≡ true
 unfolding tooShort
-few-marks n m h k = simp (le-ltb n 83 h, lt-ltb m 4 k)
+few-marks n m h k = simp (le-ltb n 83 h, lt-ltb m 6 k)
 
-pub enough : (n m : ℕ) → 83 ≤ n → 4 ≤ m → tooShort n m ≡ false
+pub enough : (n m : ℕ) → 83 ≤ n → 6 ≤ m → tooShort n m ≡ false
 unfolding tooShort
-enough n m h k = simp (le-ltb n 83 h, le-ltb m 4 k)
+enough n m h k = simp (le-ltb n 83 h, le-ltb m 6 k)
 
 pub stays : {A : Type 0} (b : Bool) (x y : A) → b ≡ true → x ≡ cond b x y
 stays b x y h = rw h
@@ -45,6 +45,6 @@ pub length-numbers : (s : Satellite) → length (numbersOf s) ≡ 83
 unfolding numbersOf placeNumbers modelNumbers nearNumbers
 length-numbers s = omega (arith, length-method (s .model .method))
 
-pub length-marks : (s : Satellite) → length (marksOf s) ≡ 4
+pub length-marks : (s : Satellite) → length (marksOf s) ≡ 6
 unfolding marksOf placeMarks modelMarks
 length-marks s = refl

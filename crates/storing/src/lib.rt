@@ -2,10 +2,11 @@
 // stored comes back the same (proofs/Kept).
 ghost use mathlib.Core.Path.{_≡_};
 ghost use mathlib.Core.List.{_++_};
-ghost use Prim.Native.Nat.{_+_, _≤_};
+ghost use Prim.Native.Nat.{_+_, _/_, _%_, _≤_};
 ghost use lib.ListN.{length};
 ghost use lib.Seq.{sets};
 ghost use Rattle.storage.specs.Storage as S;
+use instant::Instant;
 use opening::opening::Satellite;
 use resonance::place::Place;
 use resonance::place::Side;
@@ -147,6 +148,19 @@ fn method_mark(method: Method) -> u32
     }
 }
 
+// An instant's low 32 bits, and its high ones.
+fn low_half(t: Instant) -> u32
+    ensures { λ m. ⌜ m ≡ t .0 % 4294967296 ⌝ }
+{
+    (t.0 % 4294967296) as u32
+}
+
+fn high_half(t: Instant) -> u32
+    ensures { λ m. ⌜ m ≡ t .0 / 4294967296 ⌝ }
+{
+    (t.0 / 4294967296) as u32
+}
+
 // Values from an index on.
 fn put(numbers: &mut [f64], at: usize, values: &[f64])
     requires { ⌜ at + length (now values) ≤ length (now numbers) ⌝ }
@@ -227,9 +241,26 @@ fn put_method(numbers: &mut [f64], method: Method)
     }
 }
 
+// The marks 2 to 5.
+fn put_marks(marks: &mut [u32], model: Model)
+    requires { ⌜ 6 ≤ length (now marks) ⌝ }
+    ensures { λ _. ⌜ now (marks .exit) ≡ sets (now (marks .entry)) 2 (S.modelMarks model) ⌝ }
+{
+    let near = model.near;
+    let method = model.method;
+    let epoch = model.epoch;
+    let kind = method_mark(method);
+    let low = low_half(epoch);
+    let high = high_half(epoch);
+    marks[2] = near.isimp as u32;
+    marks[3] = kind;
+    marks[4] = low;
+    marks[5] = high;
+}
+
 fn put_model(numbers: &mut [f64], marks: &mut [u32], model: Model)
     requires { ⌜ 83 ≤ length (now numbers) ⌝ }
-    requires { ⌜ 4 ≤ length (now marks) ⌝ }
+    requires { ⌜ 6 ≤ length (now marks) ⌝ }
     ensures { λ _. ⌜ now (numbers .exit) ≡ sets (now (numbers .entry)) 2 (S.modelNumbers model) ⌝ }
     ensures { λ _. ⌜ now (marks .exit) ≡ sets (now (marks .entry)) 2 (S.modelMarks model) ⌝ }
 {
@@ -237,13 +268,12 @@ fn put_model(numbers: &mut [f64], marks: &mut [u32], model: Model)
     let method = model.method;
     put_near(numbers, near);
     put_method(numbers, method);
-    marks[2] = near.isimp as u32;
-    marks[3] = method_mark(method);
+    put_marks(marks, model);
 }
 
 fn put_place(numbers: &mut [f64], marks: &mut [u32], place: Place)
     requires { ⌜ 83 ≤ length (now numbers) ⌝ }
-    requires { ⌜ 4 ≤ length (now marks) ⌝ }
+    requires { ⌜ 6 ≤ length (now marks) ⌝ }
     ensures { λ _. ⌜ now (numbers .exit) ≡ sets (now (numbers .entry)) 0 (S.placeNumbers place) ⌝ }
     ensures { λ _. ⌜ now (marks .exit) ≡ sets (now (marks .entry)) 0 (S.placeMarks place) ⌝ }
 {
@@ -264,7 +294,7 @@ pub fn store(s: Satellite, numbers: &mut [f64], marks: &mut [u32]) -> u8
     if numbers.len() < 83 {
         return 17;
     }
-    if marks.len() < 4 {
+    if marks.len() < 6 {
         return 17;
     }
     let place = s.place;
@@ -283,7 +313,7 @@ pub fn store_place(place: Place, numbers: &mut [f64], marks: &mut [u32]) -> u8
     if numbers.len() < 83 {
         return 17;
     }
-    if marks.len() < 4 {
+    if marks.len() < 6 {
         return 17;
     }
     put_place(numbers, marks, place);

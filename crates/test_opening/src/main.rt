@@ -101,7 +101,7 @@ fn put_stored(out: &mut [u8], at: usize, numbers: &[f64], kind: u32, gsto: f64) 
 
 fn put_satellite(out: &mut [u8], at: usize, satellite: Satellite, gsto: f64) -> usize {
     let mut numbers = [0f64; 83];
-    let mut marks = [0u32; 4];
+    let mut marks = [0u32; 6];
     let _ = store(satellite, &mut numbers, &mut marks);
     put_stored(out, at, &numbers, marks[3], gsto)
 }

@@ -25,7 +25,7 @@ use streams::print;
 fn open(
     failed: &mut bool,
     numbers: &mut [f64; 83],
-    marks: &mut [u32; 4],
+    marks: &mut [u32; 6],
     first: &[u8],
     size: usize,
     line: &[u8],
@@ -39,7 +39,7 @@ fn open(
 fn ask(
     failed: &mut bool,
     numbers: &mut [f64; 83],
-    marks: &mut [u32; 4],
+    marks: &mut [u32; 6],
     tally: Tally,
     line: &[u8],
 ) -> Tally {
@@ -53,7 +53,7 @@ fn ask(
 fn next_line(
     failed: &mut bool,
     numbers: &mut [f64; 83],
-    marks: &mut [u32; 4],
+    marks: &mut [u32; 6],
     first: &mut [u8; 70],
     stage: Stage,
     line: &[u8],
@@ -83,7 +83,7 @@ fn line_end(input: &[u8], from: usize) -> usize
 fn verify(
     failed: &mut bool,
     numbers: &mut [f64; 83],
-    marks: &mut [u32; 4],
+    marks: &mut [u32; 6],
     first: &mut [u8; 70],
     input: &[u8],
 ) {
@@ -106,7 +106,7 @@ fn main() {
         return;
     }
     let mut numbers = [0f64; 83];
-    let mut marks = [0u32; 4];
+    let mut marks = [0u32; 6];
     let mut first = [0u8; 70];
     verify(
         &mut failed,

@@ -29,7 +29,7 @@ returns-3 c =
       written _ 17 0 0 h refl,
       (
         written _ _ _ _ h (ns ∙ run-front (numbersOf s) (a .numbers .now) 83 (length-numbers s) (omega arith)),
-        written _ _ _ _ h (ms ∙ run-front (marksOf s) (a .marks .now) 4 (length-marks s) (omega arith)),
+        written _ _ _ _ h (ms ∙ run-front (marksOf s) (a .marks .now) 6 (length-marks s) (omega arith)),
       ),
     )
 

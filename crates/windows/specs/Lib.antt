@@ -1,0 +1,4 @@
+pub mod Windows
+pub mod Scan
+pub mod Answer
+pub mod Claims
