@@ -131,12 +131,12 @@ fn marked_kind(answer: u64, mark: u32) -> Kind
     Kind::Near
 }
 
-// All that the report asks of the opener. The last of a satellite's four marks is its kind (crate storage).
+// All that the report asks of the opener. The fourth of a satellite's marks is its kind (crate storage).
 fn kind_of(r: Record) -> Kind
     ensures { λ x. ⌜ x ≡ R.kindOf r ⌝ }
 {
     let mut numbers = [0.0; 83];
-    let mut marks = [0; 4];
+    let mut marks = [0; 6];
     let answer = open_record(r, &mut numbers, &mut marks);
     marked_kind(answer, marks[3])
 }
