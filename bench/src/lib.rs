@@ -13,6 +13,7 @@
 //! - [`changes`]: what changed between two rosters.
 //! - [`sgp4`]: 002's model.
 //! - [`request`]: opening, single requests and lists, the saved position.
+//! - [`windows`]: the Earth-fixed frame, and when a satellite is above a station.
 //! - [`published`]: the pairs of 002's test set.
 //! - [`random`], [`generate`]: seeded random numbers, pairs and requests.
 //! - [`library`], [`compare`]: libraries held against each other; [`proved`] is the proved one.
@@ -31,3 +32,4 @@ pub mod request;
 pub mod roster;
 pub mod sgp4;
 pub mod tle;
+pub mod windows;

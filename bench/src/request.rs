@@ -4,6 +4,7 @@ use crate::elementary::{Document, Elementary};
 use crate::instant::{self, SPAN_LIMIT};
 use crate::sgp4::{self, Elements, Position, Satrec, State};
 use crate::tle::Record;
+use crate::windows::{self, Watch};
 use std::marker::PhantomData;
 
 /// Microseconds in a stride.
@@ -70,6 +71,8 @@ impl Row {
 #[derive(Clone, Copy, Debug)]
 pub struct Satellite<E = Document> {
     pub satrec: Satrec,
+    /// The epoch instant.
+    pub epoch: u64,
     pub saved: Saved,
     mode: PhantomData<E>,
 }
@@ -83,6 +86,7 @@ impl<E: Elementary> Satellite<E> {
         let satrec = sgp4::sgp4init::<E>(&Elements::of(record))?;
         let mut satellite = Satellite {
             satrec,
+            epoch: record.epoch() as u64,
             saved: Saved { forward: true, stride: 0, xli: 0.0, xni: 0.0 },
             mode: PhantomData,
         };
@@ -131,6 +135,16 @@ impl<E: Elementary> Satellite<E> {
     /// A list of times: a row for each, and the strides taken; or 18, 17.
     pub fn list(&mut self, times: &[i64], rows: &mut [Row]) -> Result<u64, u8> {
         list_by(times, rows, |micros| self.request(micros))
+    }
+
+    /// Windows above a station: how many, and the strides taken; or 25, 26, 18, 17.
+    pub fn windows(
+        &mut self,
+        watch: &Watch,
+        firsts: &mut [u64],
+        lasts: &mut [u64],
+    ) -> Result<(usize, u64), u8> {
+        windows::windows_by::<E>(watch, self.epoch, firsts, lasts, |micros| self.request(micros))
     }
 
     /// 002's own way: the integrator starts at the epoch for every time.
