@@ -4,7 +4,7 @@
 use crate::changes::Lent;
 use crate::elementary::Document;
 use crate::generate::{self, Aim, Ask, Call, AIMS, DAMAGES, RELATIONS, ROW_DAMAGES, TEXTS};
-use crate::instant::{self, DAY};
+use crate::instant::{self, DAY, END, SPAN_LIMIT};
 use crate::library::{Library, Opened, Unopened};
 use crate::random::Random;
 use crate::report;
@@ -12,6 +12,7 @@ use crate::request::{Row, Satellite, Saved};
 use crate::roster;
 use crate::sgp4::{self, Elements};
 use crate::tle::{self, Field, Record, Refusal};
+use crate::windows::{self, Vector, Watch, SAMPLE_LIMIT, STEP_LIMIT};
 use std::collections::BTreeMap;
 
 /// How often each thing was met, by name.
@@ -66,6 +67,7 @@ const RECORD: u64 = 4;
 const ROSTER: u64 = 5;
 const REPORT: u64 = 6;
 const CHANGES: u64 = 7;
+const WINDOWS: u64 = 8;
 
 /// A room for every listing.
 const LISTING_ROOM: usize = 24_448;
@@ -227,11 +229,112 @@ fn ask_both(
             let left = rows[written..].iter().all(|row| row.same(&MARK));
             same_or(&format!("list {times:?}: rows past the last"), left, &rows, &MARK)
         }
+        Ask::Windows { watch, places, kinds } => {
+            kinds.iter().for_each(|kind| tally.add(format!("windows: {kind}"), 1));
+            windows_both(watch, *places, one, other, tally)
+        }
     }
 }
 
-/// The saved positions of both, where both keep one. All NaNs count as one.
+/// Instants that no library writes.
+fn untouched(places: usize, from: u64) -> Vec<u64> {
+    (0..places as u64).map(|place| from + place).collect()
+}
+
+/// A call for windows put to both: what they answer, and every place lent.
+fn windows_both(
+    watch: &Watch,
+    places: (usize, usize),
+    one: &mut dyn Opened,
+    other: &mut dyn Opened,
+    tally: &mut Tally,
+) -> Result<(), String> {
+    let lent = (untouched(places.0, 1 << 63), untouched(places.1, 3 << 62));
+    let (mut mine, mut theirs) = (lent.clone(), lent.clone());
+    let a = one.windows(watch, &mut mine.0, &mut mine.1);
+    let b = other.windows(watch, &mut theirs.0, &mut theirs.1);
+    let what = format!("windows {watch:?}, places {places:?}, epoch {}", one.epoch());
+    same_or(&what, a == b, &a, &b)?;
+    same_or(&format!("{what}: firsts and lasts"), mine == theirs, &mine, &theirs)?;
+    let count = a.map_or(0, |(count, _)| count);
+    let left = mine.0[count..] == lent.0[count..] && mine.1[count..] == lent.1[count..];
+    same_or(&format!("{what}: places past the windows"), left, &mine, &lent)?;
+    asked_for_windows(watch, places, a.err(), tally);
+    if let Ok((count, strides)) = a {
+        tally.add("strides", strides);
+        tally.add("windows: strides", strides);
+        let windows: Vec<(u64, u64)> = mine.0.into_iter().zip(mine.1).take(count).collect();
+        windows_met(watch, one.epoch(), &windows, tally);
+    }
+    Ok(())
+}
+
+/// What was asked of steps, samples and places; and where faults are several, which was told.
+fn asked_for_windows(watch: &Watch, places: (usize, usize), refusal: Option<u8>, tally: &mut Tally) {
+    match watch.step {
+        0 | 1 | 60 | STEP_LIMIT => tally.add(format!("windows: step {}", watch.step), 1),
+        step if step == STEP_LIMIT + 1 => tally.add(format!("windows: step {step}"), 1),
+        step if step > 1 << 31 => tally.add("windows: step huge", 1),
+        _ => {}
+    }
+    match watch.samples {
+        0 | 1 | SAMPLE_LIMIT => tally.add(format!("windows: samples {}", watch.samples), 1),
+        samples if samples == SAMPLE_LIMIT + 1 => tally.add(format!("windows: samples {samples}"), 1),
+        samples if samples > 1 << 31 => tally.add("windows: samples huge", 1),
+        _ => {}
+    }
+    let faults = [
+        (25, watch.place().is_none()),
+        (26, watch.step == 0 || watch.step > STEP_LIMIT),
+        (18, watch.samples > SAMPLE_LIMIT),
+        (17, places.0.min(places.1) < watch.places()),
+    ];
+    let told = refusal.unwrap_or(0);
+    tally.add(format!("windows: refusal {told:>2}"), 1);
+    for (fault, _) in faults.into_iter().filter(|&(fault, found)| found && fault != told) {
+        tally.add(format!("windows: refusal {told}, {fault} at fault too"), 1);
+    }
+}
+
+/// What windows came of an answered call.
+fn windows_met(watch: &Watch, epoch: u64, found: &[(u64, u64)], tally: &mut Tally) {
+    let step = watch.step * 1_000_000;
+    let seen: u64 = found.iter().map(|(first, last)| (last - first) / step + 1).sum();
+    let mut met = |name: &str, count: u64| tally.add(format!("windows: {name}"), count);
+    met("windows", found.len() as u64);
+    met("none", (watch.samples > 0 && found.is_empty()) as u64);
+    met("all", (watch.samples > 1 && seen == watch.samples as u64) as u64);
+    met("two or more", (found.len() > 1) as u64);
+    met("as many as there can be", (watch.samples > 2 && found.len() == watch.places()) as u64);
+    let several = if watch.samples > 1 { found } else { &[] };
+    let last = |window: &(u64, u64)| window.1 as u128 == watch.instant(watch.samples.max(1) - 1);
+    met("of one sample", several.iter().filter(|window| window.0 == window.1).count() as u64);
+    met("at the first sample", several.iter().filter(|window| window.0 == watch.start).count() as u64);
+    met("at the last sample", several.iter().filter(|window| last(window)).count() as u64);
+    let (outside, far): (Vec<_>, Vec<_>) =
+        (0..watch.samples).map(|sample| watch.instant(sample)).partition(|&instant| instant >= END as u128);
+    let limit = SPAN_LIMIT as u128;
+    let far = far.iter().filter(|&&instant| instant.abs_diff(epoch as u128) > limit).count();
+    met("samples refused with 6", outside.len() as u64);
+    met("samples refused with 9", far as u64);
+    met("samples beyond u64", outside.iter().filter(|&&instant| instant > u64::MAX as u128).count() as u64);
+    let ends = |end: u128| {
+        let after = |window: &&(u64, u64)| (window.1 as u128) < end && (window.1 + step) as u128 >= end;
+        found.iter().filter(after).count() as u64
+    };
+    let inner = |end: u128| if ends(end) > 0 && watch.instant(watch.samples - 1) >= end { 1 } else { 0 };
+    met("ended by the calendar's end", inner(END as u128));
+    met("ended by ten years", inner(epoch as u128 + limit + 1));
+    let begun =
+        |window: &&(u64, u64)| window.0 > watch.start && epoch.abs_diff(window.0 - step) as u128 > limit;
+    met("begun by ten years", found.iter().filter(begun).count() as u64);
+    met("on both sides of the epoch", found.iter().filter(|w| w.0 < epoch && w.1 > epoch).count() as u64);
+}
+
+/// The epochs of both, and their saved positions, where both keep one. All NaNs count as one.
 fn same_saved(one: &dyn Opened, other: &dyn Opened) -> Result<(), String> {
+    let (a, b) = (one.epoch(), other.epoch());
+    same_or("epoch kept", a == b, &a, &b)?;
     match (one.saved(), other.saved()) {
         (Some(a), Some(b)) => same_or("saved position", a.same(&b), &a, &b),
         _ => Ok(()),
@@ -366,7 +469,7 @@ fn compare_pair(
         (Ok(mut a), Ok(mut b)) => {
             tally.add("open: opened", 1);
             branches(line1, line2, tally);
-            let mut asks = generate::sequence(random);
+            let mut asks = generate::sequence(random, a.epoch());
             if random.one_in(3) {
                 let edges = edges(random, line1, line2);
                 tally.add("times at which the refusal changes", edges.len() as u64 / 2);
@@ -436,7 +539,13 @@ fn hand_and_ask(
         one.hand(saved);
         other.hand(saved);
         tally.add("handed: positions", 1);
-        let asks = generate::sequence(random);
+        if random.one_in(2) {
+            let epoch = generate::any_epoch(random, one.epoch());
+            one.hand_epoch(epoch);
+            other.hand_epoch(epoch);
+            tally.add("handed: epochs", 1);
+        }
+        let asks = generate::sequence(random, one.epoch());
         ask_all(&asks, one, other, tally).map_err(|what| format!("{what}\nhanded in: {saved:?}"))?;
     }
     Ok(())
@@ -772,6 +881,124 @@ pub fn changes_case(
         case: format!("seed {seed}, two rosters {index} ({relation})"),
         line1: String::new(),
         line2: String::new(),
+        what,
+    })
+}
+
+// ------------------------------------------------------------------ windows
+
+/// A row of the port and its instant, for a satellite newly opened.
+fn row_at(satellite: &Satellite<Document>, instant: u128) -> Option<(u64, Row)> {
+    let instant = windows::inside(instant)?;
+    Some((instant, satellite.request_restarting(windows::since(instant, satellite.epoch))))
+}
+
+fn for_windows(watch: Watch, kind: &'static str) -> Ask {
+    let places = watch.places();
+    Ask::Windows { watch, places: (places, places + 1), kinds: vec![kind] }
+}
+
+/// Two stations that differ by the last bit of one number, from one of which a sample is visible and from
+/// the other not: where one differing bit of state, angle or rotation would show.
+fn last_bit(random: &mut Random, satellite: &Satellite<Document>) -> Option<[Ask; 2]> {
+    let start = satellite.epoch as u128 + random.below(3 * DAY as u64) as u128;
+    let (instant, row) = row_at(satellite, start).filter(|(_, row)| row.refusal == 0)?;
+    let fixed = windows::earth_fixed::<Document>(row.r, instant);
+    let tilt = generate::station(random, "on the ground");
+    let part = random.uniform(0.2, 0.9);
+    let base: Vector = std::array::from_fn(|k| part * fixed[k] + 0.05 * tilt[k]);
+    let axis = (0..3).max_by(|&i, &j| fixed[i].abs().total_cmp(&fixed[j].abs()))?;
+    let station = |bits: u64| {
+        let mut station = base;
+        station[axis] = f64::from_bits(bits);
+        station
+    };
+    let seen = |bits: u64| windows::above(fixed, station(bits)) > 0.0;
+    let (mut low, mut high) = (base[axis].to_bits(), (3.0 * fixed[axis]).to_bits());
+    if !seen(low) || seen(high) || low >= high {
+        return None;
+    }
+    while high - low > 1 {
+        let middle = low + (high - low) / 2;
+        if seen(middle) {
+            low = middle;
+        } else {
+            high = middle;
+        }
+    }
+    let asked = |bits, kind| {
+        let watch = Watch { station: station(bits).to_vec(), start: instant, step: 60, samples: 1 };
+        for_windows(watch, kind)
+    };
+    let kind =
+        if windows::above(fixed, station(high)) == 0.0 { "exactly at the horizon" } else { "just below" };
+    Some([asked(low, "just above"), asked(high, kind)])
+}
+
+/// A refused sample between visible ones: a satellite that comes too low, seen from a station beneath.
+fn refused_between(random: &mut Random, satellite: &Satellite<Document>) -> Option<Ask> {
+    let step = *random.pick(&[60, 300, 600]);
+    let apart = step as u128 * 1_000_000;
+    for _ in 0..60 {
+        let middle = satellite.epoch as u128 + apart + random.below(2 * DAY as u64) as u128;
+        let rows = [middle - apart, middle, middle + apart].map(|instant| row_at(satellite, instant));
+        let [Some((before, row)), Some((_, refused)), Some((_, after))] = rows else { continue };
+        if row.refusal != 0 || refused.refusal == 0 || after.refusal != 0 {
+            continue;
+        }
+        let station = windows::earth_fixed::<Document>(row.r, before).map(|x| x / 1000.0).to_vec();
+        let watch = Watch { station, start: before, step, samples: 3 };
+        let kind = if refused.refusal == 14 { "14 between" } else { "another refusal between" };
+        return Some(for_windows(watch, kind));
+    }
+    None
+}
+
+/// Calls that are aimed: at the last bit, at refused samples, at many windows and at long ones.
+fn aimed(random: &mut Random, satellite: &Satellite<Document>) -> Vec<Ask> {
+    let epoch = satellite.epoch;
+    let mut asks: Vec<Ask> = (0..3).filter_map(|_| last_bit(random, satellite)).flatten().collect();
+    asks.extend(refused_between(random, satellite));
+    // Half a revolution a step: every other sample is on the station's side.
+    let half = (std::f64::consts::PI * 60.0 / satellite.satrec.no) as u64;
+    let start = epoch + random.below(DAY as u64);
+    if let Some((instant, row)) = row_at(satellite, start as u128).filter(|(_, row)| row.refusal == 0) {
+        let station = windows::earth_fixed::<Document>(row.r, instant).map(|x| x / 1e4).to_vec();
+        let watch = |step, samples| Watch { station: station.clone(), start, step, samples };
+        asks.push(for_windows(watch(half.clamp(1, STEP_LIMIT), 5), "half a revolution a step"));
+        asks.push(for_windows(watch(1 + random.below(3), 20), "a station beneath"));
+    }
+    asks
+}
+
+/// Random and aimed calls for windows among single requests and lists.
+pub fn windows_case(
+    seed: u64,
+    index: u64,
+    libraries: (&dyn Library, &dyn Library),
+    tally: &mut Tally,
+) -> Result<(), Difference> {
+    let mut random = case_random(seed, WINDOWS, index);
+    let aim: Aim = AIMS[index as usize % AIMS.len()];
+    let (line1, line2) =
+        if index % 8 == 0 { generate::grazing_pair(&mut random) } else { generate::pair(&mut random, aim) };
+    let (one, other) = (libraries.0.open(&line1, &line2), libraries.1.open(&line1, &line2));
+    let (Ok(mut one), Ok(mut other)) = (one, other) else { return Ok(()) };
+    let record = tle::read(&line1, &line2).expect("a pair that opens");
+    let mut port = Satellite::<Document>::open(&record).expect("a pair that opens");
+    if random.one_in(8) {
+        port.epoch = END as u64 - 1 - random.below(2 * DAY as u64);
+        one.hand_epoch(port.epoch);
+        other.hand_epoch(port.epoch);
+    }
+    let mut asks = aimed(&mut random, &port);
+    asks.extend((0..4).map(|_| generate::windows(&mut random, port.epoch)));
+    asks.extend(generate::sequence(&mut random, port.epoch));
+    random.shuffle(&mut asks);
+    ask_all(&asks, one.as_mut(), other.as_mut(), tally).map_err(|what| Difference {
+        case: format!("seed {seed}, windows {index} ({aim:?})"),
+        line1: line1.escape_ascii().to_string(),
+        line2: line2.escape_ascii().to_string(),
         what,
     })
 }

@@ -8,6 +8,7 @@ use crate::request::{Saved, LIST_LIMIT, STRIDE};
 use crate::roster::{spelt, PAIR, PLACES, SIZE};
 use crate::sgp4::{RADIUSEARTHKM, XKE};
 use crate::tle::{self, Exponential, Record, LENGTH};
+use crate::windows::{Vector, Watch, SAMPLE_LIMIT, STEP_LIMIT};
 
 pub type Line = [u8; LENGTH];
 
@@ -342,6 +343,17 @@ pub fn pair(random: &mut Random, aim: Aim) -> (Line, Line) {
         vary(random, &mut lines);
     }
     lines
+}
+
+/// A pair whose mean perigee is above one Earth radius, and its radius there often below.
+pub fn grazing_pair(random: &mut Random) -> (Line, Line) {
+    let mut record = anything(random);
+    record.bstar = Exponential { mantissa: 0, exponent: 0 };
+    record.inclination = random.below(30_0000) as u32;
+    record.eccentricity = random.between(100_000, 2_000_000) as u32;
+    record.motion = motion_for_perigee(random.uniform(-3.0, 8.0), record.eccentricity);
+    let written = |which| tle::written(&record, which).expect("a lawful record");
+    (written(1), written(2))
 }
 
 /// First places of a catalogue number, and I, O, lower case and other bytes that are none.
@@ -692,11 +704,13 @@ pub fn damaged_row(random: &mut Random, row: &[u64], pairs: usize, damage: &str)
 
 // ----------------------------------------------------------------- requests
 
-/// A single time, or a list with the room lent for its rows.
+/// A single time, a list with the room lent for its rows, or windows with the places lent for firsts and
+/// for lasts.
 #[derive(Clone, Debug)]
 pub enum Ask {
     One(i64),
     List { times: Vec<i64>, room: usize },
+    Windows { watch: Watch, places: (usize, usize), kinds: Vec<&'static str> },
 }
 
 /// A time in microseconds; far ones are rare, for a resonant satellite takes
@@ -735,10 +749,192 @@ fn list(random: &mut Random) -> Ask {
     Ask::List { times, room: room as usize }
 }
 
-/// A sequence of single and list requests to one satellite.
-pub fn sequence(random: &mut Random) -> Vec<Ask> {
+/// A sequence of requests of the three kinds to one satellite with this epoch.
+pub fn sequence(random: &mut Random, epoch: u64) -> Vec<Ask> {
     let count = 2 + random.below(7);
-    (0..count).map(|_| if random.one_in(3) { list(random) } else { Ask::One(time(random)) }).collect()
+    let one = |random: &mut Random| match random.below(9) {
+        0..=2 => list(random),
+        3..=4 => windows(random, epoch),
+        _ => Ask::One(time(random)),
+    };
+    (0..count).map(|_| one(random)).collect()
+}
+
+/// What stations are drawn: those up to "longer" are stations, the others refused with 25.
+pub const STATIONS: [&str; 13] = [
+    "on the ground",
+    "at a pole",
+    "on the equator",
+    "in space",
+    "near the centre",
+    "far away",
+    "longer",
+    "zero",
+    "minus zero",
+    "not a number",
+    "infinite",
+    "too short",
+    "empty",
+];
+
+/// A direction, its height above the equator's plane uniform, scaled.
+fn direction(random: &mut Random, length: f64) -> Vector {
+    let (z, turn) = (random.uniform(-1.0, 1.0), random.uniform(0.0, 6.3));
+    let rest = (1.0 - z * z).sqrt();
+    [rest * turn.cos(), rest * turn.sin(), z].map(|x| length * x)
+}
+
+pub fn station(random: &mut Random, kind: &str) -> Vec<f64> {
+    let zero = *random.pick(&[0.0, -0.0]);
+    let ground = RADIUSEARTHKM + random.uniform(-20.0, 5.0);
+    let mut place = direction(random, ground);
+    let bad = match kind {
+        "not a number" => Some(*random.pick(&[f64::NAN, f64::from_bits(0xfff8_0000_0000_0777)])),
+        "infinite" => Some(*random.pick(&[f64::INFINITY, f64::NEG_INFINITY])),
+        _ => None,
+    };
+    match kind {
+        "on the ground" => {}
+        "at a pole" => place = [zero, -zero, *random.pick(&[ground, -ground])],
+        "on the equator" if random.one_in(2) => {
+            place = *random.pick(&[
+                [ground, 0.0, zero],
+                [-ground, -0.0, zero],
+                [zero, ground, 0.0],
+                [zero, -ground, -0.0],
+            ])
+        }
+        "on the equator" => {
+            let turn = random.uniform(0.0, 6.3);
+            place = [ground * turn.cos(), ground * turn.sin(), zero];
+        }
+        "in space" => {
+            let height = *random.pick(&[6_800.0, 8_000.0, 20_000.0, 42_164.0, 400_000.0]);
+            place = direction(random, height);
+        }
+        "near the centre" => {
+            let length = *random.pick(&[1.0, 1e-9, 1e-160, 1e-310]);
+            place = direction(random, length);
+        }
+        "far away" => {
+            let length = *random.pick(&[1e9, 1e100, 1e154, 1e200, 1e308]);
+            place = direction(random, length);
+        }
+        "zero" => place = [0.0; 3],
+        "minus zero" => place = *random.pick(&[[-0.0; 3], [0.0, -0.0, 0.0], [-0.0, 0.0, 0.0]]),
+        "longer" | "too short" | "empty" => {}
+        _ => {
+            place[random.below(3) as usize] = bad.expect("a number that is none");
+            if random.one_in(4) {
+                place[random.below(3) as usize] = 0.0;
+            }
+        }
+    }
+    match kind {
+        "longer" => place.iter().copied().chain([f64::NAN, f64::INFINITY]).collect(),
+        "too short" => place[..1 + random.below(2) as usize].to_vec(),
+        "empty" => vec![],
+        _ => place.to_vec(),
+    }
+}
+
+/// Where starts are drawn, from the epoch and the calendar.
+pub const STARTS: [&str; 9] = [
+    "near the epoch",
+    "before the epoch",
+    "through the epoch",
+    "ten years after the epoch",
+    "ten years before the epoch",
+    "the calendar's end",
+    "the calendar's first instants",
+    "u64's end",
+    "any instant",
+];
+
+fn start(random: &mut Random, kind: &str, epoch: u64, span: u64) -> u64 {
+    let end = instant::END as u64;
+    let limit = SPAN_LIMIT as u64;
+    let day = DAY as u64;
+    let back = random.below(span.saturating_add(2));
+    match kind {
+        "near the epoch" => epoch.saturating_add(random.below(4 * day)),
+        "before the epoch" => epoch.saturating_sub(1 + random.below(40 * day)),
+        "through the epoch" => epoch.saturating_sub(back),
+        "ten years after the epoch" => epoch.saturating_add(limit).saturating_add(1).saturating_sub(back),
+        "ten years before the epoch" => epoch.saturating_sub(limit).saturating_sub(back),
+        "the calendar's end" => (end + 1).saturating_sub(back),
+        "the calendar's first instants" => random.below(3),
+        "u64's end" => u64::MAX.saturating_sub(back),
+        _ => random.below(end),
+    }
+}
+
+/// Steps in seconds, the lawful ones first.
+const STEPS: [u64; 12] = [
+    60,
+    60,
+    1,
+    300,
+    3600,
+    43_200,
+    STEP_LIMIT,
+    0,
+    STEP_LIMIT + 1,
+    u64::MAX,
+    u64::MAX / 1_000_000 + 1,
+    1 << 32,
+];
+
+/// A call for windows, most of it lawful; `kinds` tells what was drawn.
+pub fn windows(random: &mut Random, epoch: u64) -> Ask {
+    // Now and then several faults at once.
+    let spoilt = random.one_in(16);
+    let station_kind = match random.below(8) {
+        0..=3 if spoilt => *random.pick(&STATIONS[7..]),
+        4 => *random.pick(&STATIONS),
+        _ => *random.pick(&[STATIONS[0], STATIONS[0], STATIONS[0], STATIONS[1], STATIONS[2], STATIONS[3]]),
+    };
+    let step = match random.below(16) {
+        0..=7 if spoilt => *random.pick(&STEPS[7..]),
+        8 => *random.pick(&STEPS),
+        9..=12 => *random.pick(&STEPS[..7]),
+        13 => 1 + random.below(STEP_LIMIT),
+        _ => 1 + random.below(4000),
+    };
+    let samples = match random.below(64) {
+        0..=31 if spoilt => *random.pick(&[SAMPLE_LIMIT + 1, 1 << 32, usize::MAX]),
+        32 => SAMPLE_LIMIT,
+        33 => *random.pick(&[SAMPLE_LIMIT + 1, 1 << 32, usize::MAX]),
+        34 | 35 => 0,
+        36..=39 => 1,
+        40..=50 => 2 + random.below(5) as usize,
+        _ => 2 + random.below(60) as usize,
+    };
+    let start_kind = if random.one_in(3) { *random.pick(&STARTS) } else { "near the epoch" };
+    let span = samples.min(SAMPLE_LIMIT) as u64 * step.min(STEP_LIMIT) * 1_000_000;
+    let start = start(random, start_kind, epoch, span);
+    let watch = Watch { station: station(random, station_kind), start, step, samples };
+    let (places, places_kind) = places(random, samples);
+    Ask::Windows { watch, places, kinds: vec![station_kind, start_kind, places_kind] }
+}
+
+/// What places are drawn.
+pub const PLACES_LENT: [&str; 5] =
+    ["places enough", "places exactly enough", "a first too few", "a last too few", "fewer places"];
+
+fn places(random: &mut Random, samples: usize) -> ((usize, usize), &'static str) {
+    let needed = samples.min(SAMPLE_LIMIT + 2).div_ceil(2);
+    let more = random.below(4) as usize;
+    match random.below(12) {
+        0 if needed > 0 => ((needed - 1, needed + more), PLACES_LENT[2]),
+        1 if needed > 0 => ((needed + more, needed - 1), PLACES_LENT[3]),
+        2 if needed > 0 => {
+            let fewer = |random: &mut Random| random.below(needed as u64) as usize;
+            ((fewer(random), fewer(random)), PLACES_LENT[4])
+        }
+        3..=8 => ((needed, needed), PLACES_LENT[1]),
+        _ => ((needed + 1 + more, needed + 1 + random.below(4) as usize), PLACES_LENT[0]),
+    }
 }
 
 /// A number of an integrated pair: one that strides give, or any f64 at all.
@@ -762,6 +958,17 @@ pub fn saved(random: &mut Random) -> Saved {
         stride,
         xli: integrated(random, -7.0, 7.0),
         xni: integrated(random, 0.003, 0.01),
+    }
+}
+
+/// Any epoch instant, whether or not lines lead to it.
+pub fn any_epoch(random: &mut Random, epoch: u64) -> u64 {
+    let end = instant::END as u64;
+    match random.below(6) {
+        0 => random.next_u64(),
+        1 => *random.pick(&[0, 1, end - 1, end, end + SPAN_LIMIT as u64, u64::MAX]),
+        2 => end - random.below(4 * DAY as u64),
+        _ => epoch.wrapping_add_signed(random.between(-DAY, DAY)),
     }
 }
 

@@ -8,6 +8,7 @@ use crate::report::{self, NUMBERS};
 use crate::request::{list_by, Row, Satellite, Saved, STRIDE};
 use crate::roster;
 use crate::tle::{self, Record, Refusal, Unmeant, NUMBERS as FIELDS};
+use crate::windows::{windows_by, Watch};
 use std::hint::black_box;
 use std::marker::PhantomData;
 
@@ -78,6 +79,8 @@ pub trait Library {
     fn opener(&self, line1: &[u8], line2: &[u8]) -> Box<dyn Timed>;
     /// For timing: asks a newly opened satellite for the times, its rooms made ready before.
     fn lister(&self, line1: &[u8], line2: &[u8], times: &[i64]) -> Box<dyn Timed>;
+    /// For timing: asks a newly opened satellite for windows, call after call, places made ready before.
+    fn watcher(&self, line1: &[u8], line2: &[u8], watches: &[Watch]) -> Box<dyn Timed>;
 }
 
 /// What a single request tells beside its state.
@@ -94,10 +97,17 @@ pub trait Opened {
     fn request(&mut self, micros: i64, room: &mut [f64; 6]) -> Told;
     /// Rows to the front of the room lent, and the strides reported; or 18, 17.
     fn list(&mut self, times: &[i64], rows: &mut [Row]) -> Result<u64, u8>;
+    /// Instants of windows to the front of the places lent, how many they are and the strides reported;
+    /// or 25, 26, 18, 17.
+    fn windows(&mut self, watch: &Watch, firsts: &mut [u64], lasts: &mut [u64]) -> Result<(usize, u64), u8>;
+    /// The epoch instant that the satellite keeps.
+    fn epoch(&self) -> u64;
     /// The saved position, where the library keeps one.
     fn saved(&self) -> Option<Saved>;
     /// Another saved position is handed in.
     fn hand(&mut self, saved: Saved);
+    /// Another epoch instant is handed in.
+    fn hand_epoch(&mut self, epoch: u64);
 }
 
 /// A row told as a single request tells it.
@@ -251,6 +261,10 @@ impl<E: Elementary + Copy + 'static> Library for Port<E> {
             rows: vec![Row::EMPTY; times.len()],
         })
     }
+
+    fn watcher(&self, line1: &[u8], line2: &[u8], watches: &[Watch]) -> Box<dyn Timed> {
+        Box::new(Watcher::of(opened::<E>(line1, line2).expect("a pair that opens"), watches))
+    }
 }
 
 fn opened<E: Elementary>(line1: &[u8], line2: &[u8]) -> Result<Satellite<E>, Unopened> {
@@ -388,6 +402,41 @@ impl<S: Opened + Copy> Timed for Lister<S> {
     }
 }
 
+/// A satellite asked for windows, call after call.
+pub struct Watcher<S> {
+    fresh: S,
+    satellite: S,
+    watches: Vec<Watch>,
+    firsts: Vec<u64>,
+    lasts: Vec<u64>,
+}
+
+impl<S: Clone> Watcher<S> {
+    pub fn of(fresh: S, watches: &[Watch]) -> Watcher<S> {
+        let places = watches.iter().map(Watch::places).max().unwrap_or(0);
+        Watcher {
+            satellite: fresh.clone(),
+            fresh,
+            watches: watches.to_vec(),
+            firsts: vec![0; places],
+            lasts: vec![0; places],
+        }
+    }
+}
+
+impl<S: Opened + Clone> Timed for Watcher<S> {
+    fn renew(&mut self) {
+        self.satellite.clone_from(&self.fresh);
+    }
+
+    fn run(&mut self) {
+        for watch in &self.watches {
+            let windows = self.satellite.windows(black_box(watch), &mut self.firsts, &mut self.lasts);
+            black_box((windows.expect("a lawful call"), &mut self.firsts, &mut self.lasts));
+        }
+    }
+}
+
 impl<E: Elementary> Opened for Satellite<E> {
     fn request(&mut self, micros: i64, room: &mut [f64; 6]) -> Told {
         tell(Satellite::request(self, micros), room)
@@ -397,12 +446,24 @@ impl<E: Elementary> Opened for Satellite<E> {
         Satellite::list(self, times, rows)
     }
 
+    fn windows(&mut self, watch: &Watch, firsts: &mut [u64], lasts: &mut [u64]) -> Result<(usize, u64), u8> {
+        Satellite::windows(self, watch, firsts, lasts)
+    }
+
+    fn epoch(&self) -> u64 {
+        self.epoch
+    }
+
     fn saved(&self) -> Option<Saved> {
         Some(self.saved)
     }
 
     fn hand(&mut self, saved: Saved) {
         self.saved = saved;
+    }
+
+    fn hand_epoch(&mut self, epoch: u64) {
+        self.epoch = epoch;
     }
 }
 
@@ -530,6 +591,11 @@ impl<E: Elementary + Copy + 'static> Library for Restarting<E> {
             rows: vec![Row::EMPTY; times.len()],
         })
     }
+
+    fn watcher(&self, line1: &[u8], line2: &[u8], watches: &[Watch]) -> Box<dyn Timed> {
+        let satellite = opened::<E>(line1, line2).expect("a pair that opens");
+        Box::new(Watcher::of(RestartingSatellite { satellite, last: None }, watches))
+    }
 }
 
 impl<E: Elementary> RestartingSatellite<E> {
@@ -577,11 +643,24 @@ impl<E: Elementary> Opened for RestartingSatellite<E> {
         list_by(times, rows, |micros| self.row(micros))
     }
 
+    fn windows(&mut self, watch: &Watch, firsts: &mut [u64], lasts: &mut [u64]) -> Result<(usize, u64), u8> {
+        let epoch = self.satellite.epoch;
+        windows_by::<E>(watch, epoch, firsts, lasts, |micros| self.row(micros))
+    }
+
+    fn epoch(&self) -> u64 {
+        self.satellite.epoch
+    }
+
     fn saved(&self) -> Option<Saved> {
         None
     }
 
     fn hand(&mut self, _: Saved) {
         unreachable!("it keeps no position")
+    }
+
+    fn hand_epoch(&mut self, epoch: u64) {
+        self.satellite.epoch = epoch;
     }
 }

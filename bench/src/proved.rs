@@ -2,13 +2,17 @@
 
 use crate::changes::Lent;
 use crate::library::{
-    filled, Comparer, Library, Lodger, Opened, Reader, Reporter, Timed, Told, Unopened, COMPARER_ROOM,
+    filled, Comparer, Library, Lodger, Opened, Reader, Reporter, Timed, Told, Unopened, Watcher,
+    COMPARER_ROOM,
 };
 use crate::report::NUMBERS;
 use crate::request::{Row, Saved};
 use crate::roster;
 use crate::tle::{self, Exponential};
-use saddlekerf::{Field, Line, Microseconds, Record, Refusal, Rooms, Roster, Satellite, State, Uncompared};
+use crate::windows::Watch;
+use saddlekerf::{
+    Field, Instant, Line, Microseconds, Record, Refusal, Rooms, Roster, Satellite, State, Uncompared,
+};
 use std::hint::black_box;
 
 pub struct Proved;
@@ -249,6 +253,10 @@ impl Library for Proved {
             memory: Memory::of(&vec![Row::EMPTY; times.len()]),
         })
     }
+
+    fn watcher(&self, line1: &[u8], line2: &[u8], watches: &[Watch]) -> Box<dyn Timed> {
+        Box::new(Watcher::of(Satellite::open(line1, line2).expect("a pair that opens"), watches))
+    }
 }
 
 /// The three rooms of a list's rows.
@@ -282,6 +290,8 @@ const XLI: usize = 0;
 const XNI: usize = 1;
 const SIDE: usize = 0;
 const STRIDE_NUMBER: usize = 1;
+/// Where its epoch instant lies: the low 32 bits, then the high ones.
+const EPOCH: usize = 4;
 
 impl Opened for Satellite {
     /// The library's own memory throughout: the state lent to it is what comes back.
@@ -310,6 +320,17 @@ impl Opened for Satellite {
         answer.map(|strides| strides.0 as u64).map_err(Refusal::number)
     }
 
+    fn windows(&mut self, watch: &Watch, firsts: &mut [u64], lasts: &mut [u64]) -> Result<(usize, u64), u8> {
+        let Watch { station, start, step, samples } = watch;
+        self.windows_into(station, Instant(*start), *step, *samples, firsts, lasts)
+            .map(|(count, strides)| (count, strides.0 as u64))
+            .map_err(Refusal::number)
+    }
+
+    fn epoch(&self) -> u64 {
+        Satellite::epoch(self).0
+    }
+
     fn saved(&self) -> Option<Saved> {
         let (numbers, marks) = self.memory();
         Some(Saved {
@@ -326,6 +347,13 @@ impl Opened for Satellite {
         (numbers[XLI], numbers[XNI]) = (saved.xli, saved.xni);
         marks[SIDE] = if saved.forward { 0 } else { 1 };
         marks[STRIDE_NUMBER] = saved.stride.try_into().expect("a stride number");
+        *self = Satellite::from_memory(numbers, marks);
+    }
+
+    fn hand_epoch(&mut self, epoch: u64) {
+        let (numbers, marks) = self.memory();
+        let (numbers, mut marks) = (*numbers, *marks);
+        (marks[EPOCH], marks[EPOCH + 1]) = (epoch as u32, (epoch >> 32) as u32);
         *self = Satellite::from_memory(numbers, marks);
     }
 }

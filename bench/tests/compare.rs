@@ -2,14 +2,17 @@
 
 use port::changes::Lent;
 use port::compare::{
-    changes_case, damaged_case, handed_case, record_case, report_case, roster_case, whole_case, Tally,
+    changes_case, damaged_case, handed_case, record_case, report_case, roster_case, whole_case, windows_case,
+    Tally,
 };
 use port::elementary::{Document, DocumentProcessor, Libm};
+use port::generate;
 use port::library::{Library, Opened, Port, Restarting, Timed, Told, Unopened};
 use port::proved::Proved;
 use port::request::{Row, Saved};
 use port::roster;
 use port::tle::{self, Field, Record, Refusal, LENGTH};
+use port::windows::{self, Vector, Watch};
 use std::io::Write;
 
 const SEED: u64 = 72;
@@ -85,6 +88,13 @@ fn port_against_the_proved_library() {
         "list: answered",
         "list: refusal 17",
         "list: refusal 18",
+        "windows: refusal  0",
+        "windows: refusal 17",
+        "windows: refusal 18",
+        "windows: refusal 25",
+        "windows: refusal 26",
+        "windows: windows",
+        "windows: strides",
         "write: written",
         "write: refusal 17",
     ] {
@@ -130,7 +140,7 @@ fn rosters() {
         assert!(tally.of(&name) >= 50, "{name}: {}", tally.of(&name));
     }
     assert!(tally.of("filled: another row") >= 50, "{tally}");
-    for damage in port::generate::DAMAGES.into_iter().chain(port::generate::ROW_DAMAGES) {
+    for damage in generate::DAMAGES.into_iter().chain(generate::ROW_DAMAGES) {
         let name = format!("damage: {damage}");
         assert!(tally.of(&name) >= 50, "{name}: {}", tally.of(&name));
     }
@@ -153,7 +163,7 @@ fn reports() {
         let name = format!("report: {name}");
         assert!(tally.of(&name) >= 10, "{name}: {}", tally.of(&name));
     }
-    for damage in port::generate::TEXTS {
+    for damage in generate::TEXTS {
         let name = format!("text: {damage}");
         assert!(tally.of(&name) >= 20, "{name}: {}", tally.of(&name));
     }
@@ -168,7 +178,7 @@ fn changes() {
         changes_case(SEED, index, (&port, &Proved), &mut tally).unwrap_or_else(|found| panic!("{found}"));
     }
     println!("{tally}");
-    for relation in port::generate::RELATIONS {
+    for relation in generate::RELATIONS {
         let name = format!("rosters: {relation}");
         assert!(tally.of(&name) >= 100, "{name}: {}", tally.of(&name));
     }
@@ -182,6 +192,84 @@ fn changes() {
     for label in ["first", "second", "class", "designator"].map(String::from).into_iter().chain(lines) {
         let name = format!("line: {label}");
         assert!(tally.of(&name) >= 50, "{name}: {}", tally.of(&name));
+    }
+}
+
+/// What calls for windows have to have met, and how often at least.
+fn windows_met(tally: &Tally) {
+    for kind in generate::STATIONS.into_iter().chain(generate::STARTS).chain(generate::PLACES_LENT) {
+        let name = format!("windows: {kind}");
+        assert!(tally.of(&name) >= 20, "{name}: {}", tally.of(&name));
+    }
+    for name in [
+        "refusal  0",
+        "refusal 17",
+        "refusal 18",
+        "refusal 25",
+        "refusal 26",
+        "refusal 25, 26 at fault too",
+        "refusal 25, 18 at fault too",
+        "refusal 25, 17 at fault too",
+        "refusal 26, 18 at fault too",
+        "refusal 26, 17 at fault too",
+        "refusal 18, 17 at fault too",
+        "step 0",
+        "step 1",
+        "step 60",
+        "step 86400",
+        "step 86401",
+        "step huge",
+        "samples 0",
+        "samples 1",
+        "samples 1024",
+        "samples 1025",
+        "samples huge",
+        "windows",
+        "strides",
+        "none",
+        "all",
+        "two or more",
+        "as many as there can be",
+        "of one sample",
+        "at the first sample",
+        "at the last sample",
+        "samples refused with 6",
+        "samples refused with 9",
+        "samples beyond u64",
+        "ended by the calendar's end",
+        "ended by ten years",
+        "begun by ten years",
+        "on both sides of the epoch",
+        "just above",
+        "just below",
+        "exactly at the horizon",
+        "14 between",
+        "half a revolution a step",
+        "a station beneath",
+    ] {
+        let name = format!("windows: {name}");
+        assert!(tally.of(&name) >= 5, "{name}: {}", tally.of(&name));
+    }
+}
+
+/// Calls for windows among single requests and lists.
+#[test]
+fn windows() {
+    let (port, mut tally) = (Port::<Document>::new(), Tally::default());
+    for index in 0..2100 {
+        windows_case(SEED, index, (&port, &Proved), &mut tally).unwrap_or_else(|found| panic!("{found}"));
+    }
+    println!("{tally}");
+    windows_met(&tally);
+}
+
+/// The same by the port's two ways of integrating: the windows are those of rows of newly opened satellites.
+#[test]
+fn windows_of_newly_opened_satellites() {
+    let (port, restarting) = (Port::<Document>::new(), Restarting::<Document>::new());
+    for index in 0..280 {
+        windows_case(SEED, index, (&port, &restarting), &mut Tally::default())
+            .unwrap_or_else(|found| panic!("{found}"));
     }
 }
 
@@ -213,7 +301,17 @@ fn positions_handed_in() {
         handed_case(SEED, index, (&port, &Proved), &mut tally).unwrap_or_else(|found| panic!("{found}"));
     }
     println!("{tally}");
-    for name in ["handed: positions", "row: refusal  0", "row: refusal 15", "list: answered", "strides"] {
+    for name in [
+        "handed: positions",
+        "handed: epochs",
+        "row: refusal  0",
+        "row: refusal 15",
+        "list: answered",
+        "strides",
+        "windows: windows",
+        "windows: strides",
+        "windows: samples refused with 9",
+    ] {
         assert!(tally.of(name) >= 20, "{name}: {}", tally.of(name));
     }
 }
@@ -366,6 +464,40 @@ enum Slip {
     RowRefused,
     /// What stood past the last pair left by filling.
     FilledEnd,
+    /// The rotation into the Earth-fixed frame transposed.
+    Transposed,
+    /// The frame not turned at all.
+    Unturned,
+    /// Every sample turned by the angle at the start.
+    AngleOfStart,
+    /// The sidereal angle wrong in its last bit.
+    AngleBit,
+    /// A sample on the horizon visible.
+    Horizon,
+    /// A run that goes on through a refused sample.
+    RunThrough,
+    /// Windows as numbers of samples.
+    Numbers,
+    /// The sample after the last one of a window told.
+    LastAfter,
+    /// Strides counted for a sample that is refused with 6.
+    StridesOfSix,
+    /// A sample's instant that leaves u64 taken from the front again.
+    Wrapped,
+    /// 26 told before 25.
+    StepFirst,
+    /// A place asked for each sample.
+    PlaceForEach,
+    /// A write past the windows.
+    PastTheWindows,
+    /// A write into places of a refused call.
+    WindowsRefused,
+    /// The saved position before the call kept.
+    WindowsUnsaved,
+    /// The saved position lost by a refused call.
+    PlaceAfterRefused,
+    /// The epoch moved by a call.
+    EpochMoved,
 }
 
 /// The proved library with a slip. Rows slip only once, after `at` others that could have.
@@ -593,6 +725,24 @@ impl Library for Slipping {
     fn lister(&self, _: &[u8], _: &[u8], _: &[i64]) -> Box<dyn Timed> {
         unreachable!()
     }
+
+    fn watcher(&self, _: &[u8], _: &[u8], _: &[Watch]) -> Box<dyn Timed> {
+        unreachable!()
+    }
+}
+
+/// A position turned into the Earth-fixed frame, or not quite.
+fn turned(slip: Slip, position: Vector, instant: u64, start: u64) -> Vector {
+    let angle = windows::sidereal_angle(if matches!(slip, Slip::AngleOfStart) { start } else { instant });
+    let angle = if matches!(slip, Slip::AngleBit) { angle.next_up() } else { angle };
+    let rows = windows::rotation::<Document>(angle);
+    let entry = |i: usize, j: usize| match slip {
+        Slip::Transposed => rows[j][i],
+        Slip::Unturned => (i == j) as u8 as f64,
+        _ => rows[i][j],
+    };
+    let [x, y, z] = position;
+    std::array::from_fn(|i| entry(i, 0) * x + entry(i, 1) * y + entry(i, 2) * z)
 }
 
 impl SlippingSatellite {
@@ -626,6 +776,67 @@ impl SlippingSatellite {
         }
     }
 
+    /// The windows of a call that was answered once more, row by row, with what slips in visibility.
+    fn windows_again(&mut self, watch: &Watch, firsts: &mut [u64], lasts: &mut [u64]) -> usize {
+        let (saved, station) = (self.inner.saved().unwrap(), watch.place().unwrap());
+        let (mut samples, mut running) = (vec![], false);
+        for sample in 0..watch.samples {
+            let instant = watch.instant(sample);
+            let wrapped = if matches!(self.slip, Slip::Wrapped) { instant as u64 as u128 } else { instant };
+            let mut room = [0.0; 6];
+            let row = windows::inside(wrapped).map(|instant| {
+                let told = self.inner.request(windows::since(instant, self.inner.epoch()), &mut room);
+                (instant, told.refusal)
+            });
+            let visible = match row {
+                Some((instant, 0)) => {
+                    let above = windows::above(
+                        turned(self.slip, [room[0], room[1], room[2]], instant, watch.start),
+                        station,
+                    );
+                    above > 0.0 || (matches!(self.slip, Slip::Horizon) && above == 0.0)
+                }
+                _ => matches!(self.slip, Slip::RunThrough) && running,
+            };
+            running = visible;
+            samples.push((wrapped as u64, visible));
+        }
+        self.inner.hand(saved);
+        windows::runs(samples.into_iter(), firsts, lasts)
+    }
+
+    /// What slips in an answered call for windows: how many there are afterwards.
+    fn windows_slip(
+        &mut self,
+        watch: &Watch,
+        count: usize,
+        before: (&[u64], &[u64]),
+        firsts: &mut [u64],
+        lasts: &mut [u64],
+    ) -> usize {
+        let step = watch.step * 1_000_000;
+        match self.slip {
+            Slip::Transposed
+            | Slip::Unturned
+            | Slip::AngleOfStart
+            | Slip::AngleBit
+            | Slip::Horizon
+            | Slip::RunThrough
+            | Slip::Wrapped => {
+                firsts.copy_from_slice(before.0);
+                lasts.copy_from_slice(before.1);
+                return self.windows_again(watch, firsts, lasts);
+            }
+            Slip::Numbers => {
+                firsts[..count].iter_mut().for_each(|first| *first = (*first - watch.start) / step)
+            }
+            Slip::LastAfter => lasts[..count].iter_mut().for_each(|last| *last += step),
+            Slip::PastTheWindows if count < lasts.len() => lasts[count] ^= 1,
+            _ => {}
+        }
+        count
+    }
+
     /// What slips in the saved position after a request.
     fn place(&mut self, refusal: u8) {
         let mut saved = self.inner.saved().unwrap();
@@ -657,6 +868,31 @@ impl Opened for SlippingSatellite {
         Told { refusal: row.refusal, rounds: row.rounds, strides }
     }
 
+    fn windows(&mut self, watch: &Watch, firsts: &mut [u64], lasts: &mut [u64]) -> Result<(usize, u64), u8> {
+        let before = (firsts.to_vec(), lasts.to_vec());
+        let saved = self.inner.saved().unwrap();
+        let answer = self.inner.windows(watch, firsts, lasts);
+        match (self.slip, answer) {
+            (Slip::StepFirst, Err(25)) if watch.step == 0 => return Err(26),
+            (Slip::WindowsRefused, Err(_)) if !firsts.is_empty() => firsts[0] ^= 1,
+            (Slip::PlaceAfterRefused, Err(_)) => self.inner.hand(self.fresh),
+            (Slip::PlaceForEach, Ok(_)) if firsts.len() < watch.samples => return Err(17),
+            (Slip::WindowsUnsaved, Ok(_)) => self.inner.hand(saved),
+            (Slip::EpochMoved, Ok(_)) => self.inner.hand_epoch(self.inner.epoch().wrapping_add(1)),
+            _ => {}
+        }
+        let (count, mut strides) = answer?;
+        if matches!(self.slip, Slip::StridesOfSix) {
+            let outside = |&sample: &usize| windows::inside(watch.instant(sample)).is_none();
+            strides += (0..watch.samples).filter(outside).count() as u64;
+        }
+        Ok((self.windows_slip(watch, count, (&before.0, &before.1), firsts, lasts), strides))
+    }
+
+    fn epoch(&self) -> u64 {
+        self.inner.epoch()
+    }
+
     fn saved(&self) -> Option<Saved> {
         self.inner.saved()
     }
@@ -664,6 +900,10 @@ impl Opened for SlippingSatellite {
     fn hand(&mut self, saved: Saved) {
         self.inner.hand(saved);
         self.handed = true;
+    }
+
+    fn hand_epoch(&mut self, epoch: u64) {
+        self.inner.hand_epoch(epoch);
     }
 
     fn list(&mut self, times: &[i64], rows: &mut [Row]) -> Result<u64, u8> {
@@ -691,6 +931,7 @@ fn found(slip: Slip, at: u64) -> String {
         let other = other.and_then(|()| roster_case(SEED, index, libraries, &mut tally));
         let other = other.and_then(|()| report_case(SEED, index, libraries, &mut tally));
         let other = other.and_then(|()| changes_case(SEED, index, libraries, &mut tally));
+        let other = other.and_then(|()| windows_case(SEED, index, libraries, &mut tally));
         if let Err(difference) = other.and_then(|()| record_case(SEED, index, libraries, &mut tally)) {
             return difference.what;
         }
@@ -767,6 +1008,23 @@ fn every_other_slip_is_seen() {
         (Slip::RowNotJudged, ["lodging"; 2]),
         (Slip::RowRefused, ["lodging"; 2]),
         (Slip::FilledEnd, ["filling"; 2]),
+        (Slip::Transposed, ["windows "; 2]),
+        (Slip::Unturned, ["windows "; 2]),
+        (Slip::AngleOfStart, ["windows "; 2]),
+        (Slip::AngleBit, ["windows "; 2]),
+        (Slip::Horizon, ["windows "; 2]),
+        (Slip::RunThrough, ["windows "; 2]),
+        (Slip::Numbers, ["windows "; 2]),
+        (Slip::LastAfter, ["windows "; 2]),
+        (Slip::StridesOfSix, ["windows "; 2]),
+        (Slip::Wrapped, ["windows "; 2]),
+        (Slip::StepFirst, ["windows "; 2]),
+        (Slip::PlaceForEach, ["windows "; 2]),
+        (Slip::PastTheWindows, ["windows "; 2]),
+        (Slip::WindowsRefused, ["windows "; 2]),
+        (Slip::WindowsUnsaved, ["saved "; 2]),
+        (Slip::PlaceAfterRefused, ["saved "; 2]),
+        (Slip::EpochMoved, ["epoch kept"; 2]),
     ] {
         let what = found(slip, 0);
         assert!(starts.iter().any(|start| what.starts_with(start)), "{slip:?}: {what}");

@@ -2,11 +2,13 @@
 //! an integrator that starts at the epoch for every time.
 
 use port::elementary::Document;
+use port::generate::{self, Ask};
 use port::instant::{DAY, SPAN_LIMIT};
 use port::random::Random;
 use port::request::{Row, Satellite, Saved, STRIDE};
 use port::tle;
-use saddlekerf::{Microseconds, Rooms, State};
+use port::windows;
+use saddlekerf::{Instant, Microseconds, Rooms, State};
 
 const MINUTE: i64 = 60_000_000;
 
@@ -202,7 +204,7 @@ fn any_satellite_handed_to_the_proved_library() {
             let (numbers, marks) = any_memory(&mut random, &opened);
             let mut one_by_one = saddlekerf::Satellite::from_memory(numbers, marks);
             let mut listed = one_by_one.clone();
-            let times: Vec<i64> = (0..6).map(|_| port::generate::time(&mut random)).collect();
+            let times: Vec<i64> = (0..6).map(|_| generate::time(&mut random)).collect();
             let told: Vec<_> = times.iter().map(|&time| ask_any(&mut one_by_one, time)).collect();
             let (mut numbers, mut states, mut rounds) = ([7; 6], [State::default(); 6], [7; 6]);
             let mut rooms = Rooms { refusals: &mut numbers, states: &mut states, rounds: &mut rounds };
@@ -224,4 +226,62 @@ fn any_satellite_handed_to_the_proved_library() {
     for refusal in [0, 9, 10, 11, 12, 14, 15] {
         assert!(refusals[refusal] >= 10, "{refusals:?}");
     }
+}
+
+/// The same with the side as it is read: ahead of the epoch at 0, behind it at any other mark. A call that
+/// reaches no time may write 1 for such a mark.
+fn meaning(memory: (&[f64; 83], &[u32; 6])) -> ([u64; 83], bool, [u32; 5]) {
+    let (numbers, [side, rest @ ..]) = pattern(memory);
+    (numbers, side == 0, rest)
+}
+
+/// Windows of memory that holds anything are those of its own rows, asked one by one. The call leaves all
+/// but the saved position, and where it is refused that too.
+#[test]
+fn windows_of_any_satellite_handed_to_the_proved_library() {
+    let mut random = Random::new(1024);
+    let (mut refusals, mut seen) = ([0u32; 27], 0);
+    for (line1, line2) in port::published::pairs() {
+        let Ok(opened) = saddlekerf::Satellite::open(&line1, &line2) else { continue };
+        for _ in 0..60 {
+            let (numbers, marks) = any_memory(&mut random, &opened);
+            let mut one_by_one = saddlekerf::Satellite::from_memory(numbers, marks);
+            let mut asked = one_by_one.clone();
+            let epoch = marks[4] as u64 | (marks[5] as u64) << 32;
+            assert_eq!(asked.epoch(), Instant(epoch));
+            let Ask::Windows { watch, places, .. } = generate::windows(&mut random, epoch) else {
+                unreachable!()
+            };
+            let (mut firsts, mut lasts) = (vec![7; places.0], vec![9; places.1]);
+            let lent = (firsts.clone(), lasts.clone());
+            let answer = asked.windows_into(
+                &watch.station,
+                Instant(watch.start),
+                watch.step,
+                watch.samples,
+                &mut firsts,
+                &mut lasts,
+            );
+            let answer = answer.map(|(count, strides)| (count, strides.0 as u64)).map_err(|r| r.number());
+            let (mut first, mut last) = lent.clone();
+            let expected = windows::windows_by::<Document>(&watch, epoch, &mut first, &mut last, |time| {
+                let (refusal, bits, _, strides) = ask_any(&mut one_by_one, time);
+                let [x, y, z, ..] = bits.map(f64::from_bits);
+                (Row { refusal, r: [x, y, z], ..Row::EMPTY }, strides as u64)
+            });
+            assert_eq!(answer, expected, "{watch:?} {marks:?}");
+            assert_eq!((&firsts, &lasts), (&first, &last), "{watch:?} {marks:?}");
+            let (was, is) = ((&numbers, &marks), asked.memory());
+            let bits = |numbers: &[f64]| numbers.iter().map(|x| x.to_bits()).collect::<Vec<_>>();
+            assert_eq!((bits(&was.0[2..]), &was.1[2..]), (bits(&is.0[2..]), &is.1[2..]));
+            if answer.is_err() {
+                assert_eq!((bits(was.0), was.1), (bits(is.0), is.1));
+            }
+            assert!(meaning(one_by_one.memory()) == meaning(is), "{watch:?} {marks:?}");
+            refusals[answer.err().unwrap_or(0) as usize] += 1;
+            seen += answer.map_or(0, |(count, _)| count);
+        }
+    }
+    println!("{refusals:?}, {seen} windows");
+    assert!(seen >= 100 && [0, 17, 18, 25, 26].iter().all(|&r| refusals[r] >= 5), "{refusals:?}, {seen}");
 }

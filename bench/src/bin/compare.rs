@@ -1,18 +1,19 @@
 //! Holds the proved library against the port, bit for bit: the long run.
 //!
 //!   compare [--seed N] [--whole N] [--damaged N] [--handed N] [--records N] [--rosters N]
-//!           [--reports N] [--changes N] [--first N]
+//!           [--reports N] [--changes N] [--windows N] [--first N]
 //!
 //! `--whole` and `--damaged` say how many pairs of each kind (20000 each),
 //! `--handed` how many pairs have saved positions handed in (5000), `--records`
 //! how many records are written (20000), `--rosters` how many rosters take some
-//! twenty calls each (2000), `--changes` how many two rosters are compared (2000);
+//! twenty calls each (2000), `--changes` how many two rosters are compared (2000),
+//! `--windows` how many pairs are asked for windows, some ten calls each (10000);
 //! `--first` the number of the first case, to run one again. Prints the seed, how often each branch and refusal was met,
 //! and the first difference.
 
 use port::compare::{
-    changes_case, damaged_case, handed_case, record_case, report_case, roster_case, whole_case, Difference,
-    Tally,
+    changes_case, damaged_case, handed_case, record_case, report_case, roster_case, whole_case, windows_case,
+    Difference, Tally,
 };
 use port::elementary::Document;
 use port::library::{Library, Port};
@@ -35,14 +36,14 @@ fn run() -> Result<Tally, Difference> {
     let (whole, damaged) = (option("--whole", 20_000), option("--damaged", 20_000));
     let (handed, records) = (option("--handed", 5_000), option("--records", 20_000));
     let (rosters, reports) = (option("--rosters", 2_000), option("--reports", 4_000));
-    let changes = option("--changes", 2_000);
+    let (changes, windows) = (option("--changes", 2_000), option("--windows", 10_000));
     let first = option("--first", 0);
     let port: Port<Document> = Port::new();
     println!("{} against {}", port.name(), Proved.name());
     println!(
         "seed {seed}, {whole} whole pairs, {damaged} damaged pairs, {handed} pairs with positions handed in, \
          {records} records, {rosters} rosters, {reports} reports, {changes} times two rosters, \
-         from case {first}"
+         {windows} pairs asked for windows, from case {first}"
     );
     let mut tally = Tally::default();
     for index in first..first + whole {
@@ -65,6 +66,9 @@ fn run() -> Result<Tally, Difference> {
     }
     for index in first..first + changes {
         changes_case(seed, index, (&port, &Proved), &mut tally)?;
+    }
+    for index in first..first + windows {
+        windows_case(seed, index, (&port, &Proved), &mut tally)?;
     }
     Ok(tally)
 }
