@@ -16,6 +16,7 @@ use port::report::PAIRS;
 use port::request::LIST_LIMIT;
 use port::roster::{spelt, PLACES};
 use port::tle;
+use port::windows::Watch;
 use std::time::Instant;
 
 const DAY: i64 = port::instant::DAY;
@@ -32,6 +33,17 @@ fn pair(catalogue: &str) -> published::Pair {
 /// LIST_LIMIT times, evenly outward over so many days.
 fn grid(days: i64) -> Vec<i64> {
     (0..LIST_LIMIT as i64).map(|i| i * (days * DAY / LIST_LIMIT as i64)).collect()
+}
+
+/// The minutes of the day after an epoch, above Greenwich: two calls of 720 samples.
+fn day_of_windows(epoch: u64) -> [Watch; 2] {
+    let half = DAY as u64 / 2;
+    [epoch, epoch + half].map(|start| Watch {
+        station: vec![3980.574, 0.0, 4966.855],
+        start,
+        step: 60,
+        samples: 720,
+    })
 }
 
 /// A roster of 64 pairs, of the example's record under other numbers, and the lines of the one in the
@@ -135,8 +147,8 @@ fn main() {
     };
     let libraries = libraries();
     println!(
-        "Nanoseconds per row, opening, reading, lodging or pair of a report, the best of {rounds} rounds. A ratio is the proved\n\
-         library's time over the other's: below 1 the library is the faster one.\n"
+        "Nanoseconds per row, sample of windows, opening, reading, lodging or pair of a report, the best of {rounds} rounds.\n\
+         A ratio is the proved library's time over the other's: below 1 the library is the faster one.\n"
     );
     heading(&libraries.each_ref().map(|library| library.name()));
     for (days, title) in [(1, "a day's grid"), (100, "100 days outward")] {
@@ -146,6 +158,13 @@ fn main() {
             let mut timed = libraries.each_ref().map(|library| library.lister(&line1, &line2, &times));
             show(&format!("{title}, {kind}"), &race(&mut timed, rounds, 1, LIST_LIMIT));
         }
+    }
+    for (kind, catalogue) in SATELLITES {
+        let (line1, line2) = pair(catalogue);
+        let epoch = tle::read(&line1, &line2).expect("a published pair").epoch() as u64;
+        let watches = day_of_windows(epoch);
+        let mut timed = libraries.each_ref().map(|library| library.watcher(&line1, &line2, &watches));
+        show(&format!("windows over a day at 60 s, {kind}"), &race(&mut timed, rounds, 1, 1440));
     }
     const RUNS: usize = 400;
     for (kind, catalogue) in SATELLITES {
