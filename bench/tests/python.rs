@@ -1,13 +1,16 @@
 //! The port against the Python programs in tests/, written apart from it: the
 //! reader of two-line sets over whole and damaged pairs, the arithmetic on
-//! instants, the sine and cosine of large angles, and the cube root. Two independent readings of the
+//! instants, the sine and cosine of large angles, the cube root, and the windows
+//! above a station. Two independent readings of the
 //! documents have to agree before the proved code is held against either.
 
 use port::elementary::{cube_root, Document, Elementary};
 use port::generate;
 use port::instant;
 use port::random::Random;
+use port::request::Satellite;
 use port::tle::{self, Field, Refusal};
+use port::windows::Watch;
 use std::path::{Path, PathBuf};
 use std::process::Command;
 
@@ -167,4 +170,67 @@ fn cube_roots() {
         count += 1;
     }
     assert!(count > 5000, "{count}");
+}
+
+/// What the program station_windows prints for a pair and four lawful lines, by the port.
+fn windows_printed(lines: &[&str]) -> String {
+    let numbers =
+        |line: &str| -> Vec<u128> { line.split(' ').map(|word| word.parse().unwrap_or(u128::MAX)).collect() };
+    let opened = tle::read(lines[0].as_bytes(), lines[1].as_bytes())
+        .map_err(|refusal| refusal.number())
+        .and_then(|record| Satellite::<Document>::open(&record));
+    let mut satellite = match opened {
+        Ok(satellite) => satellite,
+        Err(number) => return format!("refused {number}\n"),
+    };
+    let date = numbers(lines[3]);
+    let day = instant::from_epoch(date[0] as i64, date[1] as i64 * 100_000_000).expect("a day");
+    let most = |line: &str| numbers(line)[0].min(u64::MAX as u128) as u64;
+    let watch = Watch {
+        station: lines[2].split(' ').map(|word| word.parse().expect("a decimal")).collect(),
+        start: day as u64 + date[2] as u64,
+        step: most(lines[4]),
+        samples: most(lines[5]) as usize,
+    };
+    let (mut firsts, mut lasts) = ([0; 512], [0; 512]);
+    let (count, strides) = match satellite.windows(&watch, &mut firsts, &mut lasts) {
+        Ok(answer) => answer,
+        Err(number) => return format!("refused {number}\n"),
+    };
+    let mut text = String::new();
+    for (&first, &last) in firsts.iter().zip(&lasts).take(count) {
+        let (year, day, part) = instant::split(first as i64);
+        let (last_year, last_day, last_part) = instant::split(last as i64);
+        let samples = (last - first) / (watch.step * 1_000_000) + 1;
+        text += &format!("window {year} {day} {part} {last_year} {last_day} {last_part} {samples}\n");
+    }
+    text + &format!("strides {strides}\n")
+}
+
+/// Every case of the windows' maker with lines that are not bad. Its model is its own, and no sample of
+/// it lies close to a horizon.
+#[test]
+fn windows_above_stations() {
+    let folder = PathBuf::from(env!("CARGO_TARGET_TMPDIR")).join("station-windows");
+    let _ = std::fs::remove_dir_all(&folder);
+    python(&["tests/station_windows.py", "--cases", folder.to_str().unwrap()]);
+    let (mut count, mut bad) = (0, 0);
+    for entry in std::fs::read_dir(&folder).unwrap() {
+        let input = entry.unwrap().path();
+        if input.extension().is_none_or(|extension| extension != "in") {
+            continue;
+        }
+        let text = |extension| std::fs::read(input.with_extension(extension)).unwrap();
+        if !text("err").is_empty() {
+            assert!(text("out").is_empty());
+            bad += 1;
+            continue;
+        }
+        let given = String::from_utf8(text("in")).unwrap();
+        let lines: Vec<&str> = given.split('\n').collect();
+        assert_eq!(windows_printed(&lines), String::from_utf8(text("out")).unwrap(), "{input:?}");
+        count += 1;
+    }
+    println!("{count} cases, {bad} with bad lines");
+    assert!(count > 90 && bad > 90, "{count} {bad}");
 }

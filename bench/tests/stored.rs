@@ -104,6 +104,11 @@ fn test_compare() {
     written("tests/roster_changes.py", "crates/test_compare");
 }
 
+#[test]
+fn station_windows() {
+    written("tests/station_windows.py", "crates/station_windows");
+}
+
 /// The two files of what_changed and what it prints of them, by the maker and by the port.
 #[test]
 fn what_changed() {
