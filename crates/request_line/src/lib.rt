@@ -165,7 +165,8 @@ fn read_times(s: &[u8], row: &mut [i64]) -> Times
     Times::Malformed
 }
 
-fn begins(s: &[u8], word: &[u8]) -> bool
+// Whether a text begins with a word.
+pub fn begins(s: &[u8], word: &[u8]) -> bool
     ensures { λ r. ⌜ (r ≡ begun (now (word .entry)) (now (s .entry))) × (r ≡ true → length (now (word .entry)) ≤ length (now (s .entry))) ⌝ }
 {
     if s.len() < word.len() {
