@@ -1,0 +1,3 @@
+pub mod Words
+pub mod Print
+pub mod Examples
