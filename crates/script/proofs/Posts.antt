@@ -17,12 +17,14 @@ use Rattle.opening.specs.declared.opening.PairOpening.the-variants as pair
 use Rattle.opening.specs.Opening.{openPairOf}
 use Rattle.opening.proofs.Made.{made-of}
 use Rattle.requests.specs.Lists.{refusalsOf, statesOf, roundsOf, over}
-use Rattle.sequences.specs.Demand3.{Request, Outcome, outcome, rowTimes, run, times, sum, reported, ranged, rowAlone, stridesAlone, NoMore, epoch, Demand3}
+use Rattle.runs.specs.Runs.{Window}
+use Rattle.sequences.specs.Demand3.{Request, One, Many, Windows, Outcome, outcome, rowTimes, run, times, sum, reported, ranged, rowAlone, stridesAlone, windowsAlone, NoMore, epoch, Demand3}
 use Rattle.sequences.proofs.Demand3.{demand-3}
 use Rattle.script.specs.declared.Ran.{Ran}
 use Rattle.script.specs.declared.Ran.the-variants.{Done, Short, Unread, Refused}
-use Rattle.script_room.specs.Room.{needed, roomy, roomFor}
-use Rattle.script.specs.Script.{script, rowsOf, Left, Demanded, ranOf, Post}
+use Rattle.script_room.specs.Room.{needed, roomy, roomFor, callsFor}
+use Rattle.script_steps.specs.Steps.{written, laid, laidAll, script, rowsOf, windowsOf, firstsOf, lastsOf, stridesOf, foundOf, Left}
+use Rattle.script.specs.Script.{writtenAll, NoCall, TwoKinds, joined, Demanded, ranOf, Post}
 
 absurd : {B : Type 0} → ⊥ → B
 absurd = elim [ ]
@@ -33,40 +35,84 @@ No true = ⊥
 
 -- ── demand 3 ──
 
-abbrev joined : {A : Type 0} → List (List A) → List A
-joined [] = []
-joined (x ∷ xs) = x ++ joined xs
+module _ {A : Type 0} where
+  abbrev headOr : A → List A → A
+  headOr a [] = a
+  headOr a (x ∷ xs) = x
 
-joined-rows : (os : List Outcome) → rowsOf os ≡ joined (map (λ o. o .rows) os)
-joined-rows [] = refl
-joined-rows (o ∷ os) = ap (λ l. o .rows ++ l) (joined-rows os)
+  abbrev tailOf : List A → List A
+  tailOf [] = []
+  tailOf (x ∷ xs) = xs
 
 map-append : (f : ℤ → Row) (xs ys : List ℤ) → map f (xs ++ ys) ≡ map f xs ++ map f ys
 map-append f [] ys = refl
 map-append f (x ∷ xs) ys = ap (λ l. f x ∷ l) (map-append f xs ys)
 
-joined-times : (e : ℕ) (f : ℤ → Row) (rs : List Request) → joined (map (λ r. map f (rowTimes e r)) rs) ≡ map f (times e rs)
-joined-times e f [] = refl
-joined-times e f (r ∷ rs) = ap (λ l. map f (rowTimes e r) ++ l) (joined-times e f rs) ∙ sym (map-append f (rowTimes e r) (times e rs))
+-- what is kept of the rows, where each request's are those of the newly opened satellite s₀
+rows-kept : (s₀ s : Satellite) (rs : List Request) → map (λ o. o .rows) (run s rs) ≡ map (λ r. map (rowAlone s₀) (rowTimes (epoch s₀) r)) rs
+    → rowsOf (laidAll s rs) ≡ map (rowAlone s₀) (writtenAll rs)
+rows-kept s₀ s [] h = refl
+rows-kept s₀ s (One t ∷ rs) h =
+    let o = outcome s (One t) in
+    ap (λ u. u ++ rowsOf (laidAll (o .satellite) rs)) (ap (headOr []) h)
+    ∙ ap (λ u. map (rowAlone s₀) (t ∷ []) ++ u) (rows-kept s₀ (o .satellite) rs (ap tailOf h))
+rows-kept s₀ s (Many ts a b c ∷ rs) h =
+    let o = outcome s (Many ts a b c) in
+    ap (λ u. u ++ rowsOf (laidAll (o .satellite) rs)) (ap (headOr []) h)
+    ∙ ap (λ u. map (rowAlone s₀) (written (Many ts a b c)) ++ u) (rows-kept s₀ (o .satellite) rs (ap tailOf h))
+    ∙ sym (map-append (rowAlone s₀) (written (Many ts a b c)) (writtenAll rs))
+rows-kept s₀ s (Windows c ∷ rs) h = rows-kept s₀ (outcome s (Windows c) .satellite) rs (ap tailOf h)
+
+strides-kept : (s : Satellite) (rs : List Request) → stridesOf (laidAll s rs) ≡ reported s rs
+strides-kept s [] = refl
+strides-kept s (One t ∷ rs) = ap (λ u. outcome s (One t) .strides ∷ u) (strides-kept (outcome s (One t) .satellite) rs)
+strides-kept s (Many ts a b c ∷ rs) = ap (λ u. outcome s (Many ts a b c) .strides ∷ u) (strides-kept (outcome s (Many ts a b c) .satellite) rs)
+strides-kept s (Windows c ∷ rs) = ap (λ u. outcome s (Windows c) .strides ∷ u) (strides-kept (outcome s (Windows c) .satellite) rs)
+
+windows-kept : (s : Satellite) (rs : List Request) → map (λ o. o .windows) (laidAll s rs) ≡ map (λ o. o .windows) (run s rs)
+windows-kept s [] = refl
+windows-kept s (One t ∷ rs) = ap (λ u. outcome s (One t) .windows ∷ u) (windows-kept (outcome s (One t) .satellite) rs)
+windows-kept s (Many ts a b c ∷ rs) = ap (λ u. outcome s (Many ts a b c) .windows ∷ u) (windows-kept (outcome s (Many ts a b c) .satellite) rs)
+windows-kept s (Windows c ∷ rs) = ap (λ u. outcome s (Windows c) .windows ∷ u) (windows-kept (outcome s (Windows c) .satellite) rs)
+
+joined-windows : (os : List Outcome) → windowsOf os ≡ joined (map (λ o. o .windows) os)
+joined-windows [] = refl
+joined-windows (o ∷ os) = ap (λ u. o .windows ++ u) (joined-windows os)
+
+found-windows : (os : List Outcome) → foundOf os ≡ map length (map (λ o. o .windows) os)
+found-windows [] = refl
+found-windows (o ∷ os) = ap (λ u. length (o .windows) ∷ u) (found-windows os)
+
+pub two-kinds : TwoKinds
+two-kinds e [] h = refl
+two-kinds e (One t ∷ rs) h = ap (λ u. t ∷ u) (two-kinds e rs h)
+two-kinds e (Many ts a b c ∷ rs) h = ap (λ u. written (Many ts a b c) ++ u) (two-kinds e rs h)
+two-kinds e (Windows c ∷ rs) h = absurd h
 
 length-reported : (s : Satellite) (rs : List Request) → length (reported s rs) ≡ length rs
 length-reported s [] = refl
 length-reported s (r ∷ rs) = ap suc (length-reported (outcome s r .satellite) rs)
 
-demanded : (s : Satellite) (rs : List Request) (a : List ℕ) (b : List Float) (c : List ℕ) (d : List ℕ) (a′ : List ℕ) (b′ : List Float) (c′ : List ℕ) (d′ : List ℕ)
-    → Demand3 s rs → Left s rs a b c d a′ b′ c′ d′ → Demanded s rs a b c d a′ b′ c′ d′
-demanded s rs a b c d a′ b′ c′ d′ p l =
-    let rows : rowsOf (run s rs) ≡ map (rowAlone s) (times (epoch s) rs) = joined-rows (run s rs) ∙ ap joined (p .rows) ∙ joined-times (epoch s) (rowAlone s) rs in
+demanded : (s : Satellite) (rs : List Request) (a : List ℕ) (b : List Float) (c f l d e a′ : List ℕ) (b′ : List Float) (c′ f′ l′ d′ e′ : List ℕ)
+    → Demand3 s rs → Left s rs a b c f l d e a′ b′ c′ f′ l′ d′ e′ → Demanded s rs a b c f l d e a′ b′ c′ f′ l′ d′ e′
+demanded s rs a b c f l d e a′ b′ c′ f′ l′ d′ e′ p x =
+    let rows : rowsOf (laidAll s rs) ≡ map (rowAlone s) (writtenAll rs) = rows-kept s s rs (p .rows) in
+    let seen : map (λ o. o .windows) (laidAll s rs) ≡ map (windowsAlone s) rs = windows-kept s rs ∙ p .windows in
+    let windows : windowsOf (laidAll s rs) ≡ joined (map (windowsAlone s) rs) = joined-windows (laidAll s rs) ∙ ap (λ u. joined u) seen in
+    let strides : d′ ≡ over (reported s rs) d = x .strides ∙ ap (λ u. over u d) (strides-kept s rs) in
     let front : take (length rs) d′ ≡ reported s rs =
-    ap (λ n. take n d′) (sym (length-reported s rs)) ∙ ap (take (length (reported s rs))) (l .strides)
+    ap (λ n. take n d′) (sym (length-reported s rs)) ∙ ap (take (length (reported s rs))) strides
     ∙ take-append-seam (reported s rs) (drop (length (reported s rs)) d) in
     record {
-      refusals = l .refusals ∙ ap (λ z. over (refusalsOf z) a) rows;
-      states = l .states ∙ ap (λ z. over (statesOf z) b) rows;
-      rounds = l .rounds ∙ ap (λ z. over (roundsOf z) c) rows;
-      counts = l .strides ∙ ap (λ z. over z d) (p .counts);
-      outward = λ e o. ap sum front ∙ p .outward e o;
-      noMore = subst (λ z. NoMore z (map (λ r. sum (map (stridesAlone s) (ranged (rowTimes (epoch s) r)))) rs)) (sym front) (p .noMore);
+      refusals = x .refusals ∙ ap (λ u. over (refusalsOf u) a) rows;
+      states = x .states ∙ ap (λ u. over (statesOf u) b) rows;
+      rounds = x .rounds ∙ ap (λ u. over (roundsOf u) c) rows;
+      firsts = x .firsts ∙ ap (λ u. over (firstsOf u) f) windows;
+      lasts = x .lasts ∙ ap (λ u. over (lastsOf u) l) windows;
+      found = x .found ∙ ap (λ u. over u e) (found-windows (laidAll s rs) ∙ ap (map length) seen);
+      counts = strides ∙ ap (λ u. over u d) (p .counts);
+      outward = λ y o. ap sum front ∙ p .outward y o;
+      noMore = subst (λ u. NoMore u (map (λ r. sum (map (stridesAlone s) (ranged (rowTimes (epoch s) r)))) rs)) (sym front) (p .noMore);
     }
 
 -- ── the answers ──
@@ -82,15 +128,18 @@ satelliteOr s (pair.Opened t) = t
 satelliteOr s (pair.Unread why) = s
 satelliteOr s (pair.Refused why) = s
 
-module _ (line1 line2 : List ℕ) (ns : List ℕ) (ts : List ℤ) (a : List ℕ) (b : List Float) (c : List ℕ) (d : List ℕ) where
-  abbrev Room : Bool
-  Room = roomFor ns (length ts) (length a) (length b) (length c) (length d)
+module _ (line1 line2 ns : List ℕ) (ts : List ℤ) (ps : List Float) (qs : List ℕ) (a : List ℕ) (b : List Float) (c f l d e : List ℕ) where
+  abbrev Rows : Bool
+  Rows = roomFor ns (length ts) (length a) (length b) (length c) (length d)
 
-  unrun-post : (r : Ran) → NotDone r → r ≡ ranOf Room (openPairOf line1 line2) → Post line1 line2 ns ts a b c d r a b c d
-  unrun-post r n e = record {
-    answer = e;
-    unrun = λ h. (refl, refl, refl, refl);
-    ran = λ s o h. absurd (subst NotDone h n);
+  abbrev Calls : Bool
+  Calls = callsFor (length ns) (length ps) (length qs) (length e)
+
+  unrun-post : (r : Ran) → NotDone r → r ≡ ranOf (Rows && Calls) (openPairOf line1 line2) → Post line1 line2 ns ts ps qs a b c f l d e r a b c f l d e
+  unrun-post r n h = record {
+    answer = h;
+    unrun = λ u. (refl, refl, refl, refl, refl, refl, refl);
+    ran = λ s o u. absurd (subst NotDone u n);
   }
 
   short-is : (o : PairOpening) → Short ≡ ranOf false o
@@ -101,24 +150,32 @@ module _ (line1 line2 : List ℕ) (ns : List ℕ) (ts : List ℤ) (a : List ℕ)
   unfolding ranOf
   done-is s = refl
 
-  pub post-short : Room ≡ false → Post line1 line2 ns ts a b c d Short a b c d
-  post-short e = unrun-post Short tt (short-is (openPairOf line1 line2) ∙ ap (λ z. ranOf z (openPairOf line1 line2)) (sym e))
+  both : (p q : Bool) → p ≡ true → q ≡ true → p && q ≡ true
+  both p q h k = ap (λ u. u && q) h ∙ k
 
-  answer-of : (r : Ran) (o : PairOpening) → r ≡ ranOf true o → Room ≡ true → openPairOf line1 line2 ≡ o → r ≡ ranOf Room (openPairOf line1 line2)
-  answer-of r o h e k = h ∙ ap (ranOf true) (sym k) ∙ ap (λ z. ranOf z (openPairOf line1 line2)) (sym e)
+  pub post-short : Rows ≡ false → Post line1 line2 ns ts ps qs a b c f l d e Short a b c f l d e
+  post-short h = unrun-post Short tt (short-is (openPairOf line1 line2) ∙ ap (λ u. ranOf (u && Calls) (openPairOf line1 line2)) (sym h))
 
-  pub post-closed : (r : Ran) (o : PairOpening) → NotDone r → Room ≡ true → openPairOf line1 line2 ≡ o → r ≡ ranOf true o → Post line1 line2 ns ts a b c d r a b c d
-  post-closed r o n e k h = unrun-post r n (answer-of r o h e k)
+  pub post-few : Rows ≡ true → Calls ≡ false → Post line1 line2 ns ts ps qs a b c f l d e Short a b c f l d e
+  post-few h k = unrun-post Short tt (short-is (openPairOf line1 line2) ∙ ap (λ u. ranOf u (openPairOf line1 line2)) (sym (ap (λ u. u && Calls) h ∙ k)))
 
-  pub post-done : (s : Satellite) (a′ : List ℕ) (b′ : List Float) (c′ : List ℕ) (d′ : List ℕ) → Room ≡ true → openPairOf line1 line2 ≡ pair.Opened s
-      → Left s (script ns ts (length a) (length b) (length c)) a b c d a′ b′ c′ d′ → Post line1 line2 ns ts a b c d Done a′ b′ c′ d′
-  post-done s a′ b′ c′ d′ e k l =
+  answer-of : (r : Ran) (o : PairOpening) → r ≡ ranOf true o → Rows ≡ true → Calls ≡ true → openPairOf line1 line2 ≡ o → r ≡ ranOf (Rows && Calls) (openPairOf line1 line2)
+  answer-of r o h x y k = h ∙ ap (ranOf true) (sym k) ∙ ap (λ u. ranOf u (openPairOf line1 line2)) (sym (both Rows Calls x y))
+
+  pub post-closed : (r : Ran) (o : PairOpening) → NotDone r → Rows ≡ true → Calls ≡ true → openPairOf line1 line2 ≡ o → r ≡ ranOf true o → Post line1 line2 ns ts ps qs a b c f l d e r a b c f l d e
+  post-closed r o n x y k h = unrun-post r n (answer-of r o h x y k)
+
+  pub post-done : (s : Satellite) (a′ : List ℕ) (b′ : List Float) (c′ f′ l′ d′ e′ : List ℕ) → Rows ≡ true → Calls ≡ true → openPairOf line1 line2 ≡ pair.Opened s
+      → Left s (script s ns 0 ts ps qs (length a) (length b) (length c) (length f) (length l)) a b c f l d e a′ b′ c′ f′ l′ d′ e′ → Post line1 line2 ns ts ps qs a b c f l d e Done a′ b′ c′ f′ l′ d′ e′
+  post-done s a′ b′ c′ f′ l′ d′ e′ x y k z =
       let m = made-of line1 line2 s k in
-      let rs = script ns ts (length a) (length b) (length c) in
+      let rs = script s ns 0 ts ps qs (length a) (length b) (length c) (length f) (length l) in
       record {
-        answer = answer-of Done (pair.Opened s) (done-is s) e k;
+        answer = answer-of Done (pair.Opened s) (done-is s) x y k;
         unrun = λ h. absurd (h refl);
-        ran = λ t o h. subst (λ z. Demanded z rs a b c d a′ b′ c′ d′) (ap (satelliteOr s) (sym k ∙ o)) (demanded s rs a b c d a′ b′ c′ d′ (demand-3 line1 line2 (m .source) s (m .reads) (m .opens) rs) l);
+        ran = λ t o h.
+            subst (λ u. Demanded u (script u ns 0 ts ps qs (length a) (length b) (length c) (length f) (length l)) a b c f l d e a′ b′ c′ f′ l′ d′ e′) (ap (satelliteOr s) (sym k ∙ o))
+            (demanded s rs a b c f l d e a′ b′ c′ f′ l′ d′ e′ (demand-3 line1 line2 (m .source) s (m .reads) (m .opens) rs) z);
       }
 
   -- the rooms suffice where all tests pass
@@ -130,9 +187,9 @@ module _ (line1 line2 : List ℕ) (ns : List ℕ) (ts : List ℤ) (a : List ℕ)
   and-right true q h = h
   and-right false q h = absurd (subst No h tt)
 
-  pub enough : Room ≡ true → (needed ns ≤ length ts) × ((roomy ns (length a) ≡ true) × ((roomy ns (length b / 6) ≡ true) × ((roomy ns (length c) ≡ true) × (length ns ≤ length d))))
+  enough-rows : Rows ≡ true → (needed ns ≤ length ts) × ((roomy ns (length a) ≡ true) × ((roomy ns (length b / 6) ≡ true) × ((roomy ns (length c) ≡ true) × (length ns ≤ length d))))
   unfolding roomFor
-  enough e =
+  enough-rows e =
       let n = needed ns in
       let p1 = leb n (length ts) in
       let p2 = roomy ns (length a) in
@@ -151,3 +208,20 @@ module _ (line1 line2 : List ℕ) (ns : List ℕ) (ts : List ℤ) (a : List ℕ)
           ),
         ),
       )
+
+  enough-calls : Calls ≡ true → (length ns ≤ length ps / 3) × ((length ns ≤ length qs / 3) × (length ns ≤ length e))
+  unfolding callsFor
+  enough-calls h =
+      let p1 = leb (length ns) (length ps / 3) in
+      let p2 = leb (length ns) (length qs / 3) in
+      let p3 = leb (length ns) (length e) in
+      let h2 : p1 && p2 ≡ true = and-left (p1 && p2) p3 h in (
+        leb-true (length ns) (length ps / 3) (and-left p1 p2 h2),
+        (leb-true (length ns) (length qs / 3) (and-right p1 p2 h2), leb-true (length ns) (length e) (and-right (p1 && p2) p3 h)),
+      )
+
+  pub enough : Rows ≡ true → Calls ≡ true
+      → (needed ns ≤ length ts) × ((roomy ns (length a) ≡ true) × ((roomy ns (length b / 6) ≡ true) × ((roomy ns (length c) ≡ true) × ((length ns ≤ length d) × ((length ns ≤ length ps / 3) × ((length ns ≤ length qs / 3) × (length ns ≤ length e)))))))
+  enough x y =
+      let r = enough-rows x in
+      (r .0, (r .1 .0, (r .1 .1 .0, (r .1 .1 .1 .0, (r .1 .1 .1 .1, enough-calls y)))))

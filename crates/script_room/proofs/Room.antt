@@ -15,13 +15,21 @@ pub taken-zero : (n : ℕ) → n ≡ 0 → 1 ≡ taken n
 unfolding taken
 taken-zero n h = sym (ap taken h)
 
-pub taken-more : (n : ℕ) → (n ≡ 0 → ⊥) → n - 1 ≡ taken n
+pub taken-one : (n : ℕ) → n ≡ 1 → 0 ≡ taken n
 unfolding taken
-taken-more zero h = absurd (h refl)
+taken-one n h = sym (ap taken h)
+
+pub taken-more : (n : ℕ) → (n ≡ 0 → ⊥) → (n ≡ 1 → ⊥) → n - 2 ≡ taken n
+unfolding taken
+taken-more zero h k = absurd (h refl)
   where
     absurd : {B : Type 0} → ⊥ → B
     absurd = elim [ ]
-taken-more (suc n) h = omega arith
+taken-more (suc zero) h k = absurd (k refl)
+  where
+    absurd : {B : Type 0} → ⊥ → B
+    absurd = elim [ ]
+taken-more (suc (suc n)) h k = omega arith
 
 -- ── the times that requests take ──
 

@@ -12,7 +12,10 @@ pub fn taken(n: usize) -> usize
     if n == 0 {
         return 1;
     }
-    n - 1
+    if n == 1 {
+        return 0;
+    }
+    n - 2
 }
 
 // What is left of `room` after n, or nothing.
@@ -77,4 +80,11 @@ pub fn has_room(lengths: &[usize], t: usize, a: usize, b: usize, c: usize, d: us
         return false;
     }
     lengths.len() <= d
+}
+
+// Whether n requests have their stations, their samples, and places for how many windows they gave.
+pub fn has_calls(n: usize, p: usize, q: usize, e: usize) -> bool
+    ensures { λ r. ⌜ r ≡ R.callsFor n p q e ⌝ }
+{
+    (n <= p / 3) & (n <= q / 3) & (n <= e)
 }

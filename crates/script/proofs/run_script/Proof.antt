@@ -2,50 +2,69 @@ use mathlib.Core.Path.{refl, sym, _∙_}
 use borrow.Author.Needs.{needs}
 use Rattle.script.specs.Script.{ranOf}
 use Rattle.script_room.proofs.Room.{said-no, said-yes}
-use Rattle.script.proofs.Posts.{post-short, post-closed, post-done, enough}
+use Rattle.script.proofs.Posts.{post-short, post-few, post-closed, post-done, enough}
 use Rattle.script.proofs.run_script.Statement.{statement}
 use Rattle.script.proofs.run_script.Tie as tie
 
--- src/lib.rt:210:9
 returns : tie.Need-returns
 returns c =
     let r = c .before in
-    let a = r .before .before .before .before .before .before .before .before .args in
-    post-short (a .line1 .now) (a .line2 .now) (a .lengths .now) (a .times .now) (a .refusals .now) (a .states .now) (a .rounds .now) (a .strides .now) (sym (r .has-room .ensures) ∙ said-no (r .has-room .result) (c .if1 .taken))
+    let a = r .before .before .before .before .before .before .before .before .before .before .before .before .before .args in
+    post-short (a .line1 .now) (a .line2 .now) (a .lengths .now) (a .times .now) (a .stations .now) (a .spans .now) (a .refusals .now) (a .states .now) (a .rounds .now) (a .firsts .now) (a .lasts .now) (a .strides .now) (a .found .now) (sym (r .has-room .ensures) ∙ said-no (r .has-room .result) (c .if1 .taken))
 
--- src/lib.rt:214:13
-run-all-requires : tie.Need-run-all-requires
-run-all-requires c κs =
-    let r = c .before .before .before .before .before .before .before .before .before in
-    let a = r .before .before .before .before .before .before .before .before .args in
-    enough (a .line1 .now) (a .line2 .now) (a .lengths .now) (a .times .now) (a .refusals .now) (a .states .now) (a .rounds .now) (a .strides .now) (sym (r .has-room .ensures) ∙ said-yes (r .has-room .result) (c .before .before .before .before .before .before .before .before .if1 .left))
-
--- src/lib.rt:197:1
 returns-2 : tie.Need-returns-2
 returns-2 c =
-    let r = c .before .before .before .before .before .before .before .before .before .before .before .before .before .before .before .before .before .before in
-    let a = r .before .before .before .before .before .before .before .before .args in
-    post-done (a .line1 .now) (a .line2 .now) (a .lengths .now) (a .times .now) (a .refusals .now) (a .states .now) (a .rounds .now) (a .strides .now) _ _ _ _ _ (sym (r .has-room .ensures) ∙ said-yes (r .has-room .result) (c .before .before .before .before .before .before .before .before .before .before .before .before .before .before .before .before .before .if1 .left)) (sym (c .before .before .before .before .before .before .before .before .before .before .before .before .before .before .before .before .open-pair .ensures) ∙ c .before .before .before .before .before .before .before .before .before .before .before .before .before .before .s .given .1) (c .before .before .before .before .before .before .before .before .run-all .ensures)
+    let q = c .before in
+    let r = q .before .before in
+    let a = r .before .before .before .before .before .before .before .before .before .before .before .before .before .args in
+    post-few (a .line1 .now) (a .line2 .now) (a .lengths .now) (a .times .now) (a .stations .now) (a .spans .now) (a .refusals .now) (a .states .now) (a .rounds .now) (a .firsts .now) (a .lasts .now) (a .strides .now) (a .found .now) (sym (r .has-room .ensures) ∙ said-yes (r .has-room .result) (q .before .if1 .left)) (sym (q .has-calls .ensures) ∙ said-no (q .has-calls .result) (c .if2 .taken))
+
+run-all-requires : tie.Need-run-all-requires
+run-all-requires c κs =
+    let o = c .before .before .before .before .before .before .before .before .before .before in
+    let q = o .before .before in
+    let r = q .before .before in
+    let a = r .before .before .before .before .before .before .before .before .before .before .before .before .before .args in
+    enough (a .line1 .now) (a .line2 .now) (a .lengths .now) (a .times .now) (a .stations .now) (a .spans .now) (a .refusals .now) (a .states .now) (a .rounds .now) (a .firsts .now) (a .lasts .now) (a .strides .now) (a .found .now) (sym (r .has-room .ensures) ∙ said-yes (r .has-room .result) (q .before .if1 .left)) (sym (q .has-calls .ensures) ∙ said-yes (q .has-calls .result) (o .before .if2 .left))
 
 returns-3 : tie.Need-returns-3
-unfolding ranOf
 returns-3 c =
-    let o = c .before .before .before in
-    let r = o .before .before in
-    let a = r .before .before .before .before .before .before .before .before .args in
-    post-closed (a .line1 .now) (a .line2 .now) (a .lengths .now) (a .times .now) (a .refusals .now) (a .states .now) (a .rounds .now) (a .strides .now) _ _ tt (sym (r .has-room .ensures) ∙ said-yes (r .has-room .result) (o .before .if1 .left)) (sym (o .open-pair .ensures) ∙ c .before .why .given .1) refl
+    let o = c .before .before .before .before .before .before .before .before .before .before .before .before .before .before .before .before .before .before .before .before .before .before .before .before .before in
+    let q = o .before .before in
+    let r = q .before .before in
+    let a = r .before .before .before .before .before .before .before .before .before .before .before .before .before .args in
+    post-done (a .line1 .now) (a .line2 .now) (a .lengths .now) (a .times .now) (a .stations .now) (a .spans .now) (a .refusals .now) (a .states .now) (a .rounds .now) (a .firsts .now) (a .lasts .now) (a .strides .now) (a .found .now) _ _ _ _ _ _ _ _ (sym (r .has-room .ensures) ∙ said-yes (r .has-room .result) (q .before .if1 .left)) (sym (q .has-calls .ensures) ∙ said-yes (q .has-calls .result) (o .before .if2 .left)) (sym (o .open-pair .ensures) ∙ c .before .before .before .before .before .before .before .before .before .before .before .before .before .before .before .before .before .before .before .before .before .before .before .s .given .1) (c .before .before .before .before .before .before .before .before .before .before .before .before .before .before .run-all .ensures)
 
 returns-4 : tie.Need-returns-4
 unfolding ranOf
 returns-4 c =
     let o = c .before .before .before in
-    let r = o .before .before in
-    let a = r .before .before .before .before .before .before .before .before .args in
-    post-closed (a .line1 .now) (a .line2 .now) (a .lengths .now) (a .times .now) (a .refusals .now) (a .states .now) (a .rounds .now) (a .strides .now) _ _ tt (sym (r .has-room .ensures) ∙ said-yes (r .has-room .result) (o .before .if1 .left)) (sym (o .open-pair .ensures) ∙ c .before .why2 .given .1) refl
+    let q = o .before .before in
+    let r = q .before .before in
+    let a = r .before .before .before .before .before .before .before .before .before .before .before .before .before .args in
+    post-closed (a .line1 .now) (a .line2 .now) (a .lengths .now) (a .times .now) (a .stations .now) (a .spans .now) (a .refusals .now) (a .states .now) (a .rounds .now) (a .firsts .now) (a .lasts .now) (a .strides .now) (a .found .now) _ _ tt (sym (r .has-room .ensures) ∙ said-yes (r .has-room .result) (q .before .if1 .left)) (sym (q .has-calls .ensures) ∙ said-yes (q .has-calls .result) (o .before .if2 .left)) (sym (o .open-pair .ensures) ∙ c .before .why .given .1) refl
+
+returns-5 : tie.Need-returns-5
+unfolding ranOf
+returns-5 c =
+    let o = c .before .before .before in
+    let q = o .before .before in
+    let r = q .before .before in
+    let a = r .before .before .before .before .before .before .before .before .before .before .before .before .before .args in
+    post-closed (a .line1 .now) (a .line2 .now) (a .lengths .now) (a .times .now) (a .stations .now) (a .spans .now) (a .refusals .now) (a .states .now) (a .rounds .now) (a .firsts .now) (a .lasts .now) (a .strides .now) (a .found .now) _ _ tt (sym (r .has-room .ensures) ∙ said-yes (r .has-room .result) (q .before .if1 .left)) (sym (q .has-calls .ensures) ∙ said-yes (q .has-calls .result) (o .before .if2 .left)) (sym (o .open-pair .ensures) ∙ c .before .why2 .given .1) refl
 
 pub run-script-spec : {M : Type 1} → statement M
 run-script-spec =
     tie.close
     (tie.spec
-    (λ c κs. search needs) returns (λ c κs. search needs) (λ c. search needs) run-all-requires (λ c. search needs) (λ c. search needs)
-    (λ c. search needs) (λ c. search needs) (λ c. search needs) (λ c. search needs) returns-2 returns-3 returns-4)
+    (λ c κs. search needs)
+    returns
+    (λ c κs. search needs)
+    returns-2
+    (λ c κs. search needs)
+    (λ c. search needs)
+    run-all-requires
+    (λ c. search needs) (λ c. search needs) (λ c. search needs) (λ c. search needs) (λ c. search needs) (λ c. search needs) (λ c. search needs) (λ c. search needs) (λ c. search needs)
+    returns-3
+    returns-4
+    returns-5)

@@ -17,17 +17,17 @@ use Rattle.requests.specs.Request.{answered}
 use Rattle.requests.specs.Lists.{statesOf, refusalsOf, roundsOf, rowsFrom, stridesFrom, satelliteFrom, listRefusal, listTimes, listed, ListPost, over}
 use Rattle.sequences.specs.Demand3.{One, Many}
 use Rattle.script_room.specs.Room.{due}
-use Rattle.script.specs.Script.{requestOf, Step, written}
+use Rattle.script_steps.specs.Steps.{requestOf, Listed, written}
 
 -- ── a list, in what is left of the rooms ──
 
 module _ {A : Type 0} where
   -- what is lent from n on is all that lies there
-  rest : (l : List A) (n : ℕ) → midOf n (length l - n) l ≡ drop n l
+  pub rest : (l : List A) (n : ℕ) → midOf n (length l - n) l ≡ drop n l
   rest l n = let h : length (drop n l) ≤ length l - n = omega (arith, length-drop n l) in take-all (length l - n) (drop n l) h
 
   -- and is put back after what lies before
-  back : (l p : List A) (n : ℕ) → n ≤ length l → putMid n (length l - n) l p ≡ take n l ++ p
+  pub back : (l p : List A) (n : ℕ) → n ≤ length l → putMid n (length l - n) l p ≡ take n l ++ p
   back l p n h =
       ap (λ z. take n l ++ (p ++ z)) (post-is n (length l) l h ∙ drop-length l) ∙ ap (λ z. take n l ++ z) (append-nil p)
 
@@ -35,7 +35,7 @@ pub many-step : (s : Satellite) (ts : List ℤ) (rows : ℕ) (a : List ℕ) (b :
     → rows ≤ length a → 6 * rows ≤ length b → rows ≤ length c
     → ListPost s ts (midOf rows (length a - rows) a) (midOf (6 * rows) (length b - 6 * rows) b) (midOf rows (length c - rows) c) r a″ b″ c″
     → (r .refusal ≡ listRefusal (length ts) (length a - rows) (length b - 6 * rows) (length c - rows) → k ≡ length (written (Many ts (length a - rows) (length b - 6 * rows) (length c - rows))))
-    → Step s (Many ts (length a - rows) (length b - 6 * rows) (length c - rows)) rows a b c (r .satellite) (r .strides .0) k
+    → Listed s (Many ts (length a - rows) (length b - 6 * rows) (length c - rows)) rows a b c (r .satellite) (r .strides .0) k
     (putMid rows (length a - rows) a a″) (putMid (6 * rows) (length b - 6 * rows) b b″) (putMid rows (length c - rows) c c″)
 many-step s ts rows a b c r a″ b″ c″ k ha hb hc p hk =
     let na : length (midOf rows (length a - rows) a) ≡ length a - rows = ap length (rest a rows) ∙ length-drop rows a in
@@ -85,10 +85,11 @@ bound-by : (b : Bool) (us : List ℤ) (i j k : ℕ) → eqb (listRefusal (length
 bound-by true us i j k e = list-room (length us) i j k (eqb-true (listRefusal (length us) i j k) 0 e)
 bound-by false us i j k e = (omega arith, omega arith, omega arith)
 
-pub rows-bound : (n : ℕ) (ts : List ℤ) (i j k : ℕ) → due n ≤ i → 6 * due n ≤ j → due n ≤ k
-    → (length (written (requestOf n ts i j k)) ≤ i) × (6 * length (written (requestOf n ts i j k)) ≤ j) × (length (written (requestOf n ts i j k)) ≤ k)
-rows-bound zero ts i j k a b c = (a, b, c)
-rows-bound (suc n) ts i j k a b c = bound-by (eqb (listRefusal (length (take n ts)) i j k) 0) (take n ts) i j k refl
+pub rows-bound : (n z : ℕ) (ts : List ℤ) (ps : List Float) (qs : List ℕ) (i j k f l : ℕ) → due n ≤ i → 6 * due n ≤ j → due n ≤ k
+    → (length (written (requestOf n z ts ps qs i j k f l)) ≤ i) × (6 * length (written (requestOf n z ts ps qs i j k f l)) ≤ j) × (length (written (requestOf n z ts ps qs i j k f l)) ≤ k)
+rows-bound zero z ts ps qs i j k f l a b c = (a, b, c)
+rows-bound (suc zero) z ts ps qs i j k f l a b c = (omega arith, omega arith, omega arith)
+rows-bound (suc (suc n)) z ts ps qs i j k f l a b c = bound-by (eqb (listRefusal (length (take n ts)) i j k) 0) (take n ts) i j k refl
 
 -- ── one time is a list of one ──
 
@@ -102,7 +103,7 @@ plus-none n = omega arith
 -- put as a list with room for it, a time gives the same row, strides and satellite
 pub one-alike : (s : Satellite) (t : ℤ) (i j k : ℕ) → 1 ≤ i → 6 ≤ j → 1 ≤ k
     → {rows : ℕ} {a : List ℕ} {b : List Float} {c : List ℕ} {s′ : Satellite} {n m : ℕ} {a′ : List ℕ} {b′ : List Float} {c′ : List ℕ}
-    → Step s (Many (t ∷ []) i j k) rows a b c s′ n m a′ b′ c′ → Step s (One t) rows a b c s′ n m a′ b′ c′
+    → Listed s (Many (t ∷ []) i j k) rows a b c s′ n m a′ b′ c′ → Listed s (One t) rows a b c s′ n m a′ b′ c′
 one-alike s t i j k hi hj hk {rows} {a} {b} {c} p =
     let e : listTimes (t ∷ []) i j k ≡ t ∷ [] = ap (λ z. cond z (t ∷ []) []) (eq-eqb (listRefusal 1 i j k) 0 (one-room i j k hi hj hk)) in
     record {
