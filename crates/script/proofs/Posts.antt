@@ -2,14 +2,11 @@
 use mathlib.Core.Path.{_≡_, refl, sym, ap, _∙_, subst}
 use mathlib.Core.Bool.{Bool, true, false, _&&_}
 use mathlib.Core.List.{List, [], _∷_, _++_, map}
-use Prim.Native.Nat.{ℕ, suc, _/_, _≤_}
-use native.Mathlib.Omega.{arith}
+use Prim.Native.Nat.{ℕ, suc}
 use lib.ListN.{length, take, drop}
 use lib.Seq.{take-append-seam}
-use lib.Dec.{leb}
 use lib.IntN.{ℤ}
 use lib.Ieee.{Float}
-use borrow.Author.Tests.{leb-true}
 use Rattle.sgp4.specs.declared.Row.{Row}
 use Rattle.opening.specs.declared.opening.Satellite.{Satellite}
 use Rattle.opening.specs.declared.opening.PairOpening.{PairOpening}
@@ -22,16 +19,12 @@ use Rattle.sequences.specs.Demand3.{Request, One, Many, Windows, Outcome, outco
 use Rattle.sequences.proofs.Demand3.{demand-3}
 use Rattle.script.specs.declared.Ran.{Ran}
 use Rattle.script.specs.declared.Ran.the-variants.{Done, Short, Unread, Refused}
-use Rattle.script_room.specs.Room.{needed, roomy, roomFor, callsFor}
-use Rattle.script_steps.specs.Steps.{written, laid, laidAll, script, rowsOf, windowsOf, firstsOf, lastsOf, stridesOf, foundOf, Left}
+use Rattle.script_room.specs.Room.{roomFor, callsFor}
+use Rattle.script_steps.specs.Steps.{written, laid, laidAll, script, rowsOf, windowsOf, firstsOf, lastsOf, stridesOf, foundOf, Left, Runs}
 use Rattle.script.specs.Script.{writtenAll, NoCall, TwoKinds, joined, Demanded, ranOf, Post}
 
 absurd : {B : Type 0} → ⊥ → B
 absurd = elim [ ]
-
-abbrev No : Bool → Type 0
-No false = Unit {0}
-No true = ⊥
 
 -- ── demand 3 ──
 
@@ -165,6 +158,11 @@ module _ (line1 line2 ns : List ℕ) (ts : List ℤ) (ps : List Float) (qs : Lis
   pub post-closed : (r : Ran) (o : PairOpening) → NotDone r → Rows ≡ true → Calls ≡ true → openPairOf line1 line2 ≡ o → r ≡ ranOf true o → Post line1 line2 ns ts ps qs a b c f l d e r a b c f l d e
   post-closed r o n x y k h = unrun-post r n (answer-of r o h x y k)
 
+  -- what `run_requests` says of a script that has room
+  pub left-of : (s : Satellite) (r : Bool) (a′ : List ℕ) (b′ : List Float) (c′ f′ l′ d′ e′ : List ℕ) → Rows ≡ true → Calls ≡ true → Runs s ns ts ps qs a b c f l d e r a′ b′ c′ f′ l′ d′ e′
+      → Left s (script s ns 0 ts ps qs (length a) (length b) (length c) (length f) (length l)) a b c f l d e a′ b′ c′ f′ l′ d′ e′
+  left-of s r a′ b′ c′ f′ l′ d′ e′ x y p = p .ran (p .answer ∙ both Rows Calls x y)
+
   pub post-done : (s : Satellite) (a′ : List ℕ) (b′ : List Float) (c′ f′ l′ d′ e′ : List ℕ) → Rows ≡ true → Calls ≡ true → openPairOf line1 line2 ≡ pair.Opened s
       → Left s (script s ns 0 ts ps qs (length a) (length b) (length c) (length f) (length l)) a b c f l d e a′ b′ c′ f′ l′ d′ e′ → Post line1 line2 ns ts ps qs a b c f l d e Done a′ b′ c′ f′ l′ d′ e′
   post-done s a′ b′ c′ f′ l′ d′ e′ x y k z =
@@ -177,51 +175,3 @@ module _ (line1 line2 ns : List ℕ) (ts : List ℤ) (ps : List Float) (qs : Lis
             subst (λ u. Demanded u (script u ns 0 ts ps qs (length a) (length b) (length c) (length f) (length l)) a b c f l d e a′ b′ c′ f′ l′ d′ e′) (ap (satelliteOr s) (sym k ∙ o))
             (demanded s rs a b c f l d e a′ b′ c′ f′ l′ d′ e′ (demand-3 line1 line2 (m .source) s (m .reads) (m .opens) rs) z);
       }
-
-  -- the rooms suffice where all tests pass
-  and-left : (p q : Bool) → p && q ≡ true → p ≡ true
-  and-left true q h = refl
-  and-left false q h = h
-
-  and-right : (p q : Bool) → p && q ≡ true → q ≡ true
-  and-right true q h = h
-  and-right false q h = absurd (subst No h tt)
-
-  enough-rows : Rows ≡ true → (needed ns ≤ length ts) × ((roomy ns (length a) ≡ true) × ((roomy ns (length b / 6) ≡ true) × ((roomy ns (length c) ≡ true) × (length ns ≤ length d))))
-  unfolding roomFor
-  enough-rows e =
-      let n = needed ns in
-      let p1 = leb n (length ts) in
-      let p2 = roomy ns (length a) in
-      let p3 = roomy ns (length b / 6) in
-      let p4 = roomy ns (length c) in
-      let p5 = leb (length ns) (length d) in
-      let e4 : p1 && p2 && p3 && p4 ≡ true = and-left (p1 && p2 && p3 && p4) p5 e in
-      let e3 : p1 && p2 && p3 ≡ true = and-left (p1 && p2 && p3) p4 e4 in
-      let e2 : p1 && p2 ≡ true = and-left (p1 && p2) p3 e3 in (
-        leb-true n (length ts) (and-left p1 p2 e2),
-        (
-          and-right p1 p2 e2,
-          (
-            and-right (p1 && p2) p3 e3,
-            (and-right (p1 && p2 && p3) p4 e4, leb-true (length ns) (length d) (and-right (p1 && p2 && p3 && p4) p5 e)),
-          ),
-        ),
-      )
-
-  enough-calls : Calls ≡ true → (length ns ≤ length ps / 3) × ((length ns ≤ length qs / 3) × (length ns ≤ length e))
-  unfolding callsFor
-  enough-calls h =
-      let p1 = leb (length ns) (length ps / 3) in
-      let p2 = leb (length ns) (length qs / 3) in
-      let p3 = leb (length ns) (length e) in
-      let h2 : p1 && p2 ≡ true = and-left (p1 && p2) p3 h in (
-        leb-true (length ns) (length ps / 3) (and-left p1 p2 h2),
-        (leb-true (length ns) (length qs / 3) (and-right p1 p2 h2), leb-true (length ns) (length e) (and-right (p1 && p2) p3 h)),
-      )
-
-  pub enough : Rows ≡ true → Calls ≡ true
-      → (needed ns ≤ length ts) × ((roomy ns (length a) ≡ true) × ((roomy ns (length b / 6) ≡ true) × ((roomy ns (length c) ≡ true) × ((length ns ≤ length d) × ((length ns ≤ length ps / 3) × ((length ns ≤ length qs / 3) × (length ns ≤ length e)))))))
-  enough x y =
-      let r = enough-rows x in
-      (r .0, (r .1 .0, (r .1 .1 .0, (r .1 .1 .1 .0, (r .1 .1 .1 .1, enough-calls y)))))

@@ -2,7 +2,7 @@ use mathlib.Core.Path.{refl, sym, _∙_}
 use borrow.Author.Needs.{needs}
 use Rattle.script.specs.Script.{ranOf}
 use Rattle.script_room.proofs.Room.{said-no, said-yes}
-use Rattle.script.proofs.Posts.{post-short, post-few, post-closed, post-done, enough}
+use Rattle.script.proofs.Posts.{post-short, post-few, post-closed, left-of, post-done}
 use Rattle.script.proofs.run_script.Statement.{statement}
 use Rattle.script.proofs.run_script.Tie as tie
 
@@ -19,21 +19,15 @@ returns-2 c =
     let a = r .before .before .before .before .before .before .before .before .before .before .before .before .before .args in
     post-few (a .line1 .now) (a .line2 .now) (a .lengths .now) (a .times .now) (a .stations .now) (a .spans .now) (a .refusals .now) (a .states .now) (a .rounds .now) (a .firsts .now) (a .lasts .now) (a .strides .now) (a .found .now) (sym (r .has-room .ensures) ∙ said-yes (r .has-room .result) (q .before .if1 .left)) (sym (q .has-calls .ensures) ∙ said-no (q .has-calls .result) (c .if2 .taken))
 
-run-all-requires : tie.Need-run-all-requires
-run-all-requires c κs =
-    let o = c .before .before .before .before .before .before .before .before .before .before in
-    let q = o .before .before in
-    let r = q .before .before in
-    let a = r .before .before .before .before .before .before .before .before .before .before .before .before .before .args in
-    enough (a .line1 .now) (a .line2 .now) (a .lengths .now) (a .times .now) (a .stations .now) (a .spans .now) (a .refusals .now) (a .states .now) (a .rounds .now) (a .firsts .now) (a .lasts .now) (a .strides .now) (a .found .now) (sym (r .has-room .ensures) ∙ said-yes (r .has-room .result) (q .before .if1 .left)) (sym (q .has-calls .ensures) ∙ said-yes (q .has-calls .result) (o .before .if2 .left))
-
 returns-3 : tie.Need-returns-3
 returns-3 c =
     let o = c .before .before .before .before .before .before .before .before .before .before .before .before .before .before .before .before .before .before .before .before .before .before .before .before .before in
     let q = o .before .before in
     let r = q .before .before in
     let a = r .before .before .before .before .before .before .before .before .before .before .before .before .before .args in
-    post-done (a .line1 .now) (a .line2 .now) (a .lengths .now) (a .times .now) (a .stations .now) (a .spans .now) (a .refusals .now) (a .states .now) (a .rounds .now) (a .firsts .now) (a .lasts .now) (a .strides .now) (a .found .now) _ _ _ _ _ _ _ _ (sym (r .has-room .ensures) ∙ said-yes (r .has-room .result) (q .before .if1 .left)) (sym (q .has-calls .ensures) ∙ said-yes (q .has-calls .result) (o .before .if2 .left)) (sym (o .open-pair .ensures) ∙ c .before .before .before .before .before .before .before .before .before .before .before .before .before .before .before .before .before .before .before .before .before .before .before .s .given .1) (c .before .before .before .before .before .before .before .before .before .before .before .before .before .before .run-all .ensures)
+    let x = sym (r .has-room .ensures) ∙ said-yes (r .has-room .result) (q .before .if1 .left) in
+    let y = sym (q .has-calls .ensures) ∙ said-yes (q .has-calls .result) (o .before .if2 .left) in
+    post-done (a .line1 .now) (a .line2 .now) (a .lengths .now) (a .times .now) (a .stations .now) (a .spans .now) (a .refusals .now) (a .states .now) (a .rounds .now) (a .firsts .now) (a .lasts .now) (a .strides .now) (a .found .now) _ _ _ _ _ _ _ _ x y (sym (o .open-pair .ensures) ∙ c .before .before .before .before .before .before .before .before .before .before .before .before .before .before .before .before .before .before .before .before .before .before .before .s .given .1) (left-of (a .line1 .now) (a .line2 .now) (a .lengths .now) (a .times .now) (a .stations .now) (a .spans .now) (a .refusals .now) (a .states .now) (a .rounds .now) (a .firsts .now) (a .lasts .now) (a .strides .now) (a .found .now) _ _ _ _ _ _ _ _ _ x y (c .before .before .before .before .before .before .before .before .before .before .before .before .before .before .run-requests .ensures))
 
 returns-4 : tie.Need-returns-4
 unfolding ranOf
@@ -63,7 +57,7 @@ run-script-spec =
     returns-2
     (λ c κs. search needs)
     (λ c. search needs)
-    run-all-requires
+    (λ c κs. search needs)
     (λ c. search needs) (λ c. search needs) (λ c. search needs) (λ c. search needs) (λ c. search needs) (λ c. search needs) (λ c. search needs) (λ c. search needs) (λ c. search needs)
     returns-3
     returns-4

@@ -1,8 +1,8 @@
 use native.Mathlib.Omega.{arith}
 use borrow.Author.Needs.{needs}
 use Rattle.script_steps.proofs.Calls.{call-step, call-none}
-use Rattle.script.proofs.look.Statement.{statement}
-use Rattle.script.proofs.look.Tie as tie
+use Rattle.script_steps.proofs.look.Statement.{statement}
+use Rattle.script_steps.proofs.look.Tie as tie
 
 returns : tie.Need-returns
 returns c = call-none _ (c .if1 .taken) _ _ _ _ _ _

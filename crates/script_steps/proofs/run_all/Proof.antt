@@ -2,9 +2,9 @@ use Prim.Native.Nat.{_-_, _*_}
 use native.Mathlib.Omega.{arith}
 use lib.ListN.{length, drop, getD}
 use borrow.Author.Needs.{needs}
 use Rattle.script_steps.proofs.Running.{Running, running-none, running-more, running-done, next-fits, times-fit, written-fits, calls-fit, places, next-rows, next-windows, next-step, index-small, index-eight, next-small, rows-small, windows-small, times-small, nearer}
-use Rattle.script.proofs.run_all.Statement.{statement}
-use Rattle.script.proofs.run_all.Tie as tie
+use Rattle.script_steps.proofs.run_all.Statement.{statement}
+use Rattle.script_steps.proofs.run_all.Tie as tie
 
 abbrev Inv-loop : tie.InvT-loop
 Inv-loop lengths times stations spans refusals₀ states₀ rounds₀ firsts₀ lasts₀ strides₀ found₀ s₀ at₀ rows₀ seen₀ j₀ refusals states rounds firsts lasts strides found s at rows seen j =

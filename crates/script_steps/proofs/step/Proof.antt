@@ -1,8 +1,8 @@
 use native.Mathlib.Omega.{arith}
 use borrow.Author.Needs.{needs}
 use Rattle.script_steps.proofs.Rooms.{many-step, none-added, all-added}
-use Rattle.script.proofs.step.Statement.{statement}
-use Rattle.script.proofs.step.Tie as tie
+use Rattle.script_steps.proofs.step.Statement.{statement}
+use Rattle.script_steps.proofs.step.Tie as tie
 
 returns : tie.Need-returns
 returns c =
