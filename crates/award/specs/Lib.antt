@@ -1,0 +1,4 @@
+pub mod Plan
+pub mod Acceptable
+pub mod Claims
+pub mod Examples
