@@ -38,7 +38,7 @@
  *   Nothing is allocated, nothing is kept after the return, and there is no global state: calls on
  *   different memory may run in any number of threads at once. A request writes the satellite, so
  *   one satellite takes one call at a time; copy the struct to ask it in two threads.
- *   A call that is refused with 1-9 or 16-26 writes nothing. Where memory "stays", it is proved to
+ *   A call that is refused with 1-9 or 16-31 writes nothing. Where memory "stays", it is proved to
  *   hold the same values; all NaNs are one value there, and that a NaN keeps its own bits too is
  *   tested and not proved.
  *
@@ -75,7 +75,7 @@
  *     bits  8-15  line 1 or 2 (refusals 1-4); roster 1 or 2 (refusal 22 of saddlekerf_changes); rounds of
  *                 Kepler's equation (saddlekerf_request)
  *     bits 16-31  column, counted from 1 (refusal 3); field (refusal 6 of lines); windows
- *                 (saddlekerf_windows)
+ *                 (saddlekerf_windows); offer (refusal 27) or entry (refusals 28-30), counted from 0
  *     bits 32-63  bytes written (saddlekerf_print, saddlekerf_write, saddlekerf_changes); integrator
  *                 strides (requests, saddlekerf_windows)
  *
@@ -133,6 +133,13 @@ extern "C" {
 /* A buffer for saddlekerf_changes that is never too short. */
 #define SADDLEKERF_CHANGES_ROOM 24448
 
+/* Elements of an offer (enum saddlekerf_offer_number), and the most offers and entries of an award plan. */
+#define SADDLEKERF_OFFER_NUMBERS 4
+#define SADDLEKERF_PLAN_LIMIT 256
+
+/* The largest bid, in cents. */
+#define SADDLEKERF_BID_LIMIT INT64_C(1000000000)
+
 /* Refusal numbers. */
 enum saddlekerf_refusal_number {
     SADDLEKERF_ANSWERED = 0,
@@ -154,7 +161,8 @@ enum saddlekerf_refusal_number {
     SADDLEKERF_RECORD = 16,               /* a record to be written is outside layout or ranges, or no pair
                                              whose form is accepted has the fields */
     SADDLEKERF_ROOM = 17,                 /* lent memory too short */
-    SADDLEKERF_LIST = 18,                 /* a list of more than 1,024 times, or windows of more samples */
+    SADDLEKERF_LIST = 18,                 /* a list of more than 1,024 times, windows of more samples, or a plan
+                                             of more than 256 offers or entries */
     SADDLEKERF_FULL = 19,                 /* all 64 places of the roster hold other numbers */
     SADDLEKERF_OLDER = 20,                /* the roster's pair of this number has a later epoch */
     SADDLEKERF_ABSENT = 21,               /* the roster has no pair of this number */
@@ -163,7 +171,13 @@ enum saddlekerf_refusal_number {
     SADDLEKERF_PAIRS = 23,                /* a text of more than 4,096 whole pairs */
     SADDLEKERF_ODD = 24,                  /* a text with an odd number of lines */
     SADDLEKERF_STATION = 25,              /* a station that is zero or not finite */
-    SADDLEKERF_STEP = 26                  /* a step of 0 or more than 86,400 s */
+    SADDLEKERF_STEP = 26,                 /* a step of 0 or more than 86,400 s */
+    SADDLEKERF_OFFER = 27,                /* an offer outside the calendar, whose end is not after its start
+                                             or whose bid is too large */
+    SADDLEKERF_NO_OFFER = 28,             /* an entry that names no offer */
+    SADDLEKERF_NAMED_TWICE = 29,          /* an entry whose offer an earlier one names */
+    SADDLEKERF_CLASH = 30,                /* an entry whose offer clashes with that of an earlier one */
+    SADDLEKERF_TOTAL = 31                 /* a total that is not the sum of the bids */
 };
 
 /* The fields of refusal 6, in column order. */
@@ -226,6 +240,14 @@ enum saddlekerf_report_number {
     SADDLEKERF_REPORT_SPAN = 16           /* microseconds between the two */
 };
 
+/* The numbers of an offer for a slot. */
+enum saddlekerf_offer_number {
+    SADDLEKERF_OFFER_ANTENNA = 0,         /* any number */
+    SADDLEKERF_OFFER_START = 1,           /* instants: the slot's start, and its end, which is not part of it */
+    SADDLEKERF_OFFER_END = 2,
+    SADDLEKERF_OFFER_BID = 3              /* whole cents */
+};
+
 /* ---- the archive and the thread ---- */
 
 /* The archive's version, as SADDLEKERF_VERSION. */
@@ -258,6 +280,7 @@ static inline unsigned saddlekerf_rounds(uint64_t answer) { return (unsigned)(an
 static inline unsigned saddlekerf_column(uint64_t answer) { return (unsigned)(answer >> 16 & 65535); }
 static inline unsigned saddlekerf_field(uint64_t answer) { return (unsigned)(answer >> 16 & 65535); }
 static inline unsigned saddlekerf_window_count(uint64_t answer) { return (unsigned)(answer >> 16 & 65535); }
+static inline unsigned saddlekerf_place(uint64_t answer) { return (unsigned)(answer >> 16 & 65535); }
 static inline uint32_t saddlekerf_strides(uint64_t answer) { return (uint32_t)(answer >> 32); }
 static inline uint32_t saddlekerf_written(uint64_t answer) { return (uint32_t)(answer >> 32); }
 
@@ -412,6 +435,23 @@ uint64_t saddlekerf_changes(const uint8_t *first, size_t first_length,
                             const uint8_t *second, size_t second_length,
                             const uint64_t *row2, size_t row2_length,
                             uint8_t *out, size_t out_length);
+
+/* ---- an award plan ---- */
+
+/*
+ * Checks an award plan: which of the offers win, as an optimiser proposes it. offers has four numbers an
+ * offer (enum saddlekerf_offer_number); up to three left over are no offer. Each entry is the number of an
+ * offer, counted from 0. total is in cents, turnaround in seconds: two slots on one antenna must lie at
+ * least so far apart. At turnaround 0 one may end at the instant at which another starts.
+ * Answer: 18 for more than 256 offers or entries; 27 with the first offer, named or not, that is outside
+ * the calendar, does not end after it starts, or bids more than 1,000,000,000 cents; 28 with the first
+ * entry that names no offer; 29 with the first entry whose offer an earlier one names; 30 with the first
+ * entry whose offer clashes with that of an earlier one; 31 where the total is not the sum of their bids;
+ * else 0. saddlekerf_place tells the offer or the entry. 256 offers all named take some 70 microseconds.
+ */
+uint64_t saddlekerf_award(const uint64_t *offers, size_t offers_length,
+                          const uint64_t *entries, size_t entries_length,
+                          uint64_t total, uint64_t turnaround);
 
 /* ---- a satellite ---- */
 

@@ -1,6 +1,6 @@
 /*
  * Uses the library from C: reads, prints and opens pairs, reads and writes records, lodges pairs in a
- * roster with its row and withdraws them, lists what changed between two, asks for one time, for lists and for windows, and holds every answer, bit for bit, to document 01's example and to the rows of the
+ * roster with its row and withdraws them, lists what changed between two, checks an award plan, asks for one time, for lists and for windows, and holds every answer, bit for bit, to document 01's example and to the rows of the
  * published test set; what memory holds afterwards too, with NaNs in it whose own bits must stay.
  *
  *   c_example bench/vectors/published-rows.txt
@@ -580,6 +580,49 @@ static uint32_t strides_at(saddlekerf_satellite *s, int64_t time)
     return saddlekerf_strides(saddlekerf_satellite_request(s, time, state));
 }
 
+static uint64_t award_of(const uint64_t *offers, size_t count, const uint64_t *entries, size_t named, uint64_t total,
+                         uint64_t turnaround)
+{
+    return saddlekerf_award(offers, SADDLEKERF_OFFER_NUMBERS * count, entries, named, total, turnaround);
+}
+
+/* An award plan: accepted, and every refusal with its place. */
+static void check_plan(void)
+{
+    const uint64_t day = UINT64_C(86400000000);
+    const uint64_t order[3] = {0, 1, 2}, back[2] = {1, 0}, missing[3] = {0, 2, 4}, again[3] = {0, 2, 0};
+    uint64_t offers[13] = {1, 0, 0, 5, 1, 0, 0, 7, 2, 0, 0, 9, 42};
+    uint64_t many[SADDLEKERF_OFFER_NUMBERS * (SADDLEKERF_PLAN_LIMIT + 1)], all[SADDLEKERF_PLAN_LIMIT + 1], a;
+    size_t i;
+    offers[2] = offers[5] = offers[10] = day;
+    offers[6] = 2 * day;
+
+    CHECK(award_of(offers, 3, order, 3, 21, 0) == SADDLEKERF_ANSWERED);
+    CHECK(saddlekerf_award(offers, 13, order, 3, 21, 0) == SADDLEKERF_ANSWERED);
+    CHECK(saddlekerf_award(offers, 11, order, 3, 21, 0) == (SADDLEKERF_NO_OFFER | 2 << 16));
+    a = award_of(offers, 3, order, 3, 21, 1);
+    CHECK(saddlekerf_refusal(a) == SADDLEKERF_CLASH && saddlekerf_place(a) == 1);
+    CHECK(award_of(offers, 3, back, 2, 12, UINT64_C(1) << 63) == a);
+    a = award_of(offers, 3, missing, 3, 0, 0);
+    CHECK(saddlekerf_refusal(a) == SADDLEKERF_NO_OFFER && saddlekerf_place(a) == 2);
+    a = award_of(offers, 3, again, 3, 0, 0);
+    CHECK(saddlekerf_refusal(a) == SADDLEKERF_NAMED_TWICE && saddlekerf_place(a) == 2);
+    CHECK(award_of(offers, 3, order, 3, 20, 0) == SADDLEKERF_TOTAL);
+    offers[11] = SADDLEKERF_BID_LIMIT + 1;
+    a = award_of(offers, 3, back, 2, 12, 0);
+    CHECK(saddlekerf_refusal(a) == SADDLEKERF_OFFER && saddlekerf_place(a) == 2);
+    for (i = 0; i <= SADDLEKERF_PLAN_LIMIT; i++) {
+        all[i] = many[4 * i] = i;
+        many[4 * i + 1] = 0;
+        many[4 * i + 2] = day;
+        many[4 * i + 3] = SADDLEKERF_BID_LIMIT;
+    }
+    CHECK(award_of(many, 256, all, 256, UINT64_C(256000000000), 1) == SADDLEKERF_ANSWERED);
+    CHECK(award_of(many, 257, all, 0, 0, 0) == SADDLEKERF_LIST);
+    CHECK(award_of(many, 256, all, 257, 0, 0) == SADDLEKERF_LIST);
+    CHECK(saddlekerf_award(NULL, 0, NULL, 0, 0, 0) == SADDLEKERF_ANSWERED);
+}
+
 static void count_strides(void)
 {
     saddlekerf_satellite s;
@@ -1007,6 +1050,7 @@ int main(int argc, char **argv)
     fill_roster();
     count_pairs();
     compare_rosters();
+    check_plan();
     count_strides();
     keep_memory();
     lend_nothing();

@@ -45,6 +45,9 @@ uint64_t __real_saddlekerf_request_list(SATELLITE, const int64_t *times, size_t 
         size_t firsts_length, uint64_t *lasts, size_t lasts_length
 uint64_t __real_saddlekerf_windows(SATELLITE, STATION);
 
+uint64_t __real_saddlekerf_award(const uint64_t *offers, size_t offers_length, const uint64_t *entries,
+                                 size_t entries_length, uint64_t total, uint64_t turnaround);
+
 static int wrong(const char *name)
 {
     const char *chosen = getenv("WRONG_LIBRARY");
@@ -357,5 +360,27 @@ uint64_t __wrap_saddlekerf_windows(SATELLITE, STATION)
         return SADDLEKERF_LIST;
     if (saddlekerf_refusal(a) == 0 && start >= UINT64_C(3155760000000000) && wrong("windows-six")) /* strides counted */
         return a | (uint64_t)samples << 32;
+    return a;
+}
+
+uint64_t __wrap_saddlekerf_award(const uint64_t *offers, size_t offers_length, const uint64_t *entries,
+                                 size_t entries_length, uint64_t total, uint64_t turnaround)
+{
+    uint64_t a = __real_saddlekerf_award(offers, offers_length, entries, entries_length, total, turnaround);
+    size_t i;
+    if (saddlekerf_refusal(a) == SADDLEKERF_CLASH && wrong("award-turnaround")) /* slots that only touch pass */
+        return __real_saddlekerf_award(offers, offers_length, entries, entries_length, total, 0);
+    if (saddlekerf_refusal(a) == SADDLEKERF_OFFER && wrong("award-unnamed")) { /* an offer that is not named passes */
+        for (i = 0; i < entries_length; i++)
+            if (entries[i] == saddlekerf_place(a))
+                return a;
+        return SADDLEKERF_ANSWERED;
+    }
+    if (a == SADDLEKERF_TOTAL && wrong("award-total"))
+        return SADDLEKERF_ANSWERED;
+    if (saddlekerf_refusal(a) >= SADDLEKERF_NO_OFFER && saddlekerf_refusal(a) <= SADDLEKERF_CLASH && wrong("award-place"))
+        a += 1 << 16; /* entries counted from 1 */
+    if (saddlekerf_refusal(a) == SADDLEKERF_LIST && wrong("award-many"))
+        return SADDLEKERF_ANSWERED;
     return a;
 }

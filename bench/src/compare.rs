@@ -24,6 +24,10 @@ impl Tally {
         *self.0.entry(name.into()).or_default() += count;
     }
 
+    pub fn count(&mut self, name: impl Into<String>) {
+        self.add(name, 1);
+    }
+
     pub fn of(&self, name: &str) -> u64 {
         self.0.get(name).copied().unwrap_or(0)
     }

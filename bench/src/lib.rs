@@ -11,6 +11,7 @@
 //! - [`roster`]: pairs lodged and withdrawn in a lent buffer.
 //! - [`report`]: the pairs of a text counted.
 //! - [`changes`]: what changed between two rosters.
+//! - [`award`]: award plans checked.
 //! - [`sgp4`]: 002's model.
 //! - [`request`]: opening, single requests and lists, the saved position.
 //! - [`windows`]: the Earth-fixed frame, and when a satellite is above a station.
@@ -18,6 +19,7 @@
 //! - [`random`], [`generate`]: seeded random numbers, pairs and requests.
 //! - [`library`], [`compare`]: libraries held against each other; [`proved`] is the proved one.
 
+pub mod award;
 pub mod changes;
 pub mod compare;
 pub mod elementary;

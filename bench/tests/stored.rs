@@ -128,6 +128,22 @@ fn what_changed() {
 }
 
 #[test]
+fn test_award() {
+    written("tests/award_plans.py", "crates/test_award");
+}
+
+/// The plan of check_award, as its text.
+#[test]
+fn check_award() {
+    let folder = PathBuf::from(env!("CARGO_TARGET_TMPDIR"));
+    let made = ["stdin", "stdout"].map(|name| folder.join(format!("award-{name}")));
+    output(Command::new("python3").current_dir(root()).args(["tests/award_plans.py", "--text"]).args(&made));
+    for (path, name) in made.iter().zip(["stdin", "stdout"]) {
+        assert!(fs::read(path).unwrap() == stored(&format!("crates/check_award/{name}")), "{name}");
+    }
+}
+
+#[test]
 fn test_listing() {
     written("tests/print_cases.py", "crates/test_listing");
 }

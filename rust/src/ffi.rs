@@ -188,6 +188,15 @@ mod c {
             lasts: *mut u64,
             lasts_length: usize,
         ) -> u64;
+
+        pub fn saddlekerf_award(
+            offers: *const u64,
+            offers_length: usize,
+            entries: *const u64,
+            entries_length: usize,
+            total: u64,
+            turnaround: u64,
+        ) -> u64;
     }
 }
 
@@ -422,10 +431,17 @@ pub fn windows(
     }
 }
 
+pub fn award(offers: &[u64], entries: &[u64], total: u64, turnaround: u64) -> u64 {
+    // SAFETY: both are slices, lent for reading.
+    unsafe {
+        c::saddlekerf_award(offers.as_ptr(), offers.len(), entries.as_ptr(), entries.len(), total, turnaround)
+    }
+}
+
 #[cfg(test)]
 mod tests {
     use super::*;
-    use crate::{Record, Report, Roster, Satellite, PRINT_ROOM};
+    use crate::{Offer, Plan, Record, Report, Roster, Satellite, PRINT_ROOM};
 
     /// The numbers written here are the header's.
     #[test]
@@ -452,6 +468,9 @@ mod tests {
         assert_eq!(defined("COUNTS"), Report::NUMBERS as i64);
         assert_eq!(defined("PAIRS_LIMIT"), Report::PAIRS_LIMIT as i64);
         assert_eq!(defined("ROW"), Roster::PLACES as i64);
+        assert_eq!(defined("OFFER_NUMBERS"), Offer::NUMBERS as i64);
+        assert_eq!(defined("PLAN_LIMIT"), Plan::LIMIT as i64);
+        assert_eq!(defined("BID_LIMIT"), Offer::BID_LIMIT as i64);
         assert_eq!(defined("VERSION"), VERSION as i64);
     }
 

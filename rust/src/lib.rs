@@ -70,6 +70,8 @@
 //!
 //! The form of a pair and what its fields mean are judged apart, too: [`Fields`], [`form`], [`meaning`].
 //!
+//! An award plan that somebody else proposes is checked, and accepted only if it breaks no rule ([`Plan`]).
+//!
 //! Lines are any bytes at all, without a line end. They get an answer or exactly one [`Refusal`],
 //! with the line, the first column that breaks the layout, or the field, where it has one.
 //!
@@ -94,6 +96,7 @@
 
 #![deny(unsafe_code, missing_debug_implementations)]
 
+mod award;
 #[allow(unsafe_code)]
 mod ffi;
 mod record;
@@ -103,6 +106,7 @@ mod roster;
 mod satellite;
 mod time;
 
+pub use award::{check_plan, Offer, Plan, PlanRefusal};
 pub use record::{form, meaning, Exponential, Fields, Record};
 pub use refusal::{Field, Line, Refusal};
 pub use report::{count_text, Date, Report};

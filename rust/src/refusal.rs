@@ -1,5 +1,6 @@
 //! Refusals, and answers of the library taken apart.
 
+use crate::award::PlanRefusal;
 use crate::roster::{Uncompared, Which};
 use std::fmt;
 
@@ -225,6 +226,25 @@ impl Answer {
         }
     }
 
+    /// The answer of an award plan.
+    pub fn checked(self) -> Result<(), PlanRefusal> {
+        let place = self.place();
+        let refusal = match self.0 as u8 {
+            0 if self.0 == 0 => return Ok(()),
+            18 => PlanRefusal::TooMany,
+            27 => PlanRefusal::Unsound { offer: place },
+            28 => PlanRefusal::NoSuchOffer { entry: place },
+            29 => PlanRefusal::NamedTwice { entry: place },
+            30 => PlanRefusal::Clash { entry: place },
+            31 => PlanRefusal::WrongTotal,
+            _ => self.foreign(),
+        };
+        match refusal.number() as u64 | (refusal.place().unwrap_or(0) as u64) << 16 {
+            answer if answer == self.0 => Err(refusal),
+            _ => self.foreign(),
+        }
+    }
+
     /// The answer to one time: Kepler rounds or a refusal, and the strides.
     pub fn asked(self) -> (Result<u8, Refusal>, u32) {
         let row = match (self.0 as u8, self.place()) {
@@ -385,6 +405,27 @@ mod tests {
         assert_eq!(Answer(0x0000_0007_0000_0000).counted(), Ok(7));
         assert_eq!(Answer(0x0000_0007_0003_0000).windowed(), Ok((3, 7)));
         assert_eq!(Answer(26).windowed(), Err(Refusal::Step));
+    }
+
+    /// Every refusal of an award plan: its answer by the header's layout, its number and its place.
+    #[test]
+    fn answers_of_a_plan() {
+        let table = [
+            (18, PlanRefusal::TooMany),
+            (0x0000_001b, PlanRefusal::Unsound { offer: 0 }),
+            (0x00ff_001b, PlanRefusal::Unsound { offer: 255 }),
+            (0x0001_001c, PlanRefusal::NoSuchOffer { entry: 1 }),
+            (0x0002_001d, PlanRefusal::NamedTwice { entry: 2 }),
+            (0x0003_001e, PlanRefusal::Clash { entry: 3 }),
+            (31, PlanRefusal::WrongTotal),
+        ];
+        assert_eq!(Answer(0).checked(), Ok(()));
+        for (answer, refusal) in table {
+            assert_eq!(Answer(answer).checked(), Err(refusal));
+        }
+        for answer in [26, 32, 1 << 32, 1 << 16, 0x0001_0012, 0x0001_001f, 27 | 1 << 8, 27 | 1 << 32] {
+            assert!(std::panic::catch_unwind(|| Answer(answer).checked()).is_err(), "{answer:#x}");
+        }
     }
 
     /// Numbers, lines, columns, fields and values that belong to no answer of the header.

@@ -8,6 +8,7 @@
 //! the call itself is timed. Lines, times, satellites and rooms for rows are
 //! made ready before, and the library's rows stay in the three rooms it fills.
 
+use port::award;
 use port::elementary::{DocumentProcessor, Libm};
 use port::library::{Library, Port, Restarting, Timed};
 use port::proved::Proved;
@@ -186,4 +187,9 @@ fn main() {
     let changed = changed_roster();
     let mut timed = libraries.each_ref().map(|library| library.comparer(&roster, &changed));
     show("comparing two full rosters", &race(&mut timed, rounds, RUNS / 20, 1));
+    let plan = award::full_plan();
+    let checkers = [award::proved, award::check, award::check, award::check];
+    let mut timed =
+        checkers.map(|check| Box::new(award::Timing { plan: plan.clone(), check }) as Box<dyn Timed>);
+    show("checking an award plan of 256 offers, all named", &race(&mut timed, rounds, RUNS / 20, 1));
 }

@@ -1,16 +1,18 @@
 //! Holds the proved library against the port, bit for bit: the long run.
 //!
 //!   compare [--seed N] [--whole N] [--damaged N] [--handed N] [--records N] [--rosters N]
-//!           [--reports N] [--changes N] [--windows N] [--first N]
+//!           [--reports N] [--changes N] [--windows N] [--awards N] [--first N]
 //!
 //! `--whole` and `--damaged` say how many pairs of each kind (20000 each),
 //! `--handed` how many pairs have saved positions handed in (5000), `--records`
 //! how many records are written (20000), `--rosters` how many rosters take some
 //! twenty calls each (2000), `--changes` how many two rosters are compared (2000),
-//! `--windows` how many pairs are asked for windows, some ten calls each (10000);
+//! `--windows` how many pairs are asked for windows, some ten calls each (10000),
+//! `--awards` how many award plans are checked (100000);
 //! `--first` the number of the first case, to run one again. Prints the seed, how often each branch and refusal was met,
 //! and the first difference.
 
+use port::award;
 use port::compare::{
     changes_case, damaged_case, handed_case, record_case, report_case, roster_case, whole_case, windows_case,
     Difference, Tally,
@@ -69,6 +71,16 @@ fn run() -> Result<Tally, Difference> {
     }
     for index in first..first + windows {
         windows_case(seed, index, (&port, &Proved), &mut tally)?;
+    }
+    let awards = option("--awards", 100_000);
+    println!("and {awards} award plans");
+    for index in first..first + awards {
+        award::case(seed, index, (award::check, award::proved), &mut tally).map_err(|what| Difference {
+            case: String::new(),
+            line1: String::new(),
+            line2: String::new(),
+            what,
+        })?;
     }
     Ok(tally)
 }

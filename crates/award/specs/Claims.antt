@@ -79,7 +79,7 @@ pub record Refusals (offers entries : List ℕ) (total turnaround : ℕ) : Type 
       → Few offers entries × AllSound offers entries × AllThere offers entries × FirstFault (λ j. repeated entries j) (length entries) i
   pub is-30 : (i : ℕ) → answerOf offers entries total turnaround ≡ answer.Clash i
       → Few offers entries × AllSound offers entries × AllThere offers entries × NoneTwice offers entries
-        × FirstFault (λ j. clashing offers entries turnaround j) (length entries) i
+      × FirstFault (λ j. clashing offers entries turnaround j) (length entries) i
   pub is-31 : answerOf offers entries total turnaround ≡ answer.WrongTotal
       → Few offers entries × AllSound offers entries × AllThere offers entries × NoneTwice offers entries × NoClash offers entries turnaround
-        × (totalOf offers entries ≡ total → ⊥)
+      × (totalOf offers entries ≡ total → ⊥)

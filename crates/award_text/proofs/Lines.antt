@@ -38,11 +38,11 @@ module _ (d : Draft) (line row part : List ℕ) (label : Label) (q : Numbers) (r
       let b = rest line (label .size) in
       let room = length row in
       let first : r ≡ after d (labelOf line .kind) (countOf (numbersOf (drop (labelOf line .size) line))) room =
-          a ∙ ap (λ x. after d (label .kind) x room) (g .0 ∙ ap (λ l. countOf (numbersOf l)) b)
-          ∙ ap (λ (x : Label). after d (x .kind) (countOf (numbersOf (drop (x .size) line))) room) e in
+      a ∙ ap (λ x. after d (label .kind) x room) (g .0 ∙ ap (λ l. countOf (numbersOf l)) b)
+      ∙ ap (λ (x : Label). after d (x .kind) (countOf (numbersOf (drop (x .size) line))) room) e in
       let second : putMid at (room - at) row part ≡ take at row ++ sets (drop at row) 0 (numbersOf (drop (labelOf line .size) line) .values) =
-          back row part at h
-          ∙ ap (λ z. take at row ++ z) (g .1 ∙ ap (λ l. sets l 0 (numbersOf bytesLeft .values)) (rest row at)
-          ∙ ap (λ l. sets (drop at row) 0 (numbersOf l .values)) b
-          ∙ ap (λ (x : Label). sets (drop at row) 0 (numbersOf (drop (x .size) line) .values)) e) in
+      back row part at h
+      ∙ ap (λ z. take at row ++ z) (g .1 ∙ ap (λ l. sets l 0 (numbersOf bytesLeft .values)) (rest row at)
+      ∙ ap (λ l. sets (drop at row) 0 (numbersOf l .values)) b
+      ∙ ap (λ (x : Label). sets (drop at row) 0 (numbersOf (drop (x .size) line) .values)) e) in
       (rw (le-ltb room at h) first, rw (le-ltb room at h) second)

@@ -23,8 +23,11 @@ ghost use Rattle.lent_pairs.specs.Roster.{lodgingAnswer, withdrawalAnswer, fill
 ghost use Rattle.lent_opening.specs.Opening as O;
 ghost use Rattle.lent_requests.specs.Requests as R;
 ghost use Rattle.lent_windows.specs.Windows as W;
+ghost use Rattle.award.specs.Plan.{answerOf};
+ghost use Rattle.lent_award.specs.Answer.{awardAnswer};
 ghost use Rattle.saddlekerf.specs.Version.{version, boundary};
 use columns::checksum;
+use lent_award::check_held;
 use lent_changes::compare_held;
 use lent_fields::form_answer;
 use lent_fields::meaning_answer;
@@ -246,4 +249,18 @@ pub extern "C" fn saddlekerf_windows(
     ensures { λ r. ⌜ W.WindowsPost (now (numbers .entry)) (now (marks .entry)) (now (station .entry)) start step samples (now (firsts .entry)) (now (lasts .entry)) r (now (numbers .exit)) (now (marks .exit)) (now (firsts .exit)) (now (lasts .exit)) ⌝ }
 {
     windows_held(numbers, marks, station, start, step, samples, firsts, lasts)
+}
+
+// Checks an award plan: offers of four numbers each, entries that name offers, the claimed total in cents
+// and the turnaround in seconds.
+#[no_mangle]
+pub extern "C" fn saddlekerf_award(
+    offers: &[u64],
+    entries: &[u64],
+    total: u64,
+    turnaround: u64,
+) -> u64
+    ensures { λ r. ⌜ r ≡ awardAnswer (answerOf (now (offers .entry)) (now (entries .entry)) total turnaround) ⌝ }
+{
+    check_held(offers, entries, total, turnaround)
 }

@@ -4,22 +4,6 @@ use Rattle.award_text.specs.Text.{after}
 use borrow.Author.Needs.{needs}
 use Rattle.award_text.proofs.after_line.Statement.{statement}
 use Rattle.award_text.proofs.after_line.Tie as tie
-use Rattle.award_text.proofs.after_line.Reads as reads
-use Rattle.award_text.proofs.after_line.Lts as lts
-use Rattle.award_text.proofs.bad.Reads as bad-reads
-use Rattle.award_text.proofs.place.Reads as place-reads
-
-enum-known-numbers : tie.Need-enum-known-numbers
-enum-known-numbers c = search needs
-
-place-requires : tie.Need-place-requires
-place-requires c κs = search needs
-
-enum-told : tie.Need-enum-told
-enum-told c = search needs
-
-bad-requires : tie.Need-bad-requires
-bad-requires c κs = search needs
 
 returns : tie.Need-returns
 returns c = let s = c .before .before in let a = s .before .before .args in c .place .ensures ∙ sym (ap (λ (x : Numbers). after (a .d) (a .kind) x (a .room)) (s .numbers .given .1))
@@ -29,4 +13,5 @@ returns-2 c = let s = c .before in let a = s .before .before .args in c .bad .en
 
 pub after-line-spec : {M : Type 1} → statement M
 after-line-spec =
-    tie.close (tie.spec enum-known-numbers place-requires enum-told bad-requires returns returns-2)
+    tie.close (tie.spec
+    (λ c. search needs) (λ c κs. search needs) (λ c. search needs) (λ c κs. search needs) returns returns-2)

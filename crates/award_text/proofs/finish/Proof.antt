@@ -3,9 +3,6 @@ use Rattle.award_text.specs.Text.{verdictOf}
 use borrow.Author.Needs.{needs}
 use Rattle.award_text.proofs.finish.Statement.{statement}
 use Rattle.award_text.proofs.finish.Tie as tie
-use Rattle.award_text.proofs.finish.Reads as reads
-use Rattle.award_text.proofs.finish.Lts as lts
-use Rattle.award_text.proofs.judge.Reads as judge-reads
 
 returns : tie.Need-returns
 unfolding verdictOf
@@ -23,12 +20,10 @@ returns-4 : tie.Need-returns-4
 unfolding verdictOf
 returns-4 c = let i = c .before .before .before in simp (le-ltb _ _ (i .before .if1 .left), i .if2 .left, eq-eqb _ _ (c .before .if3 .left), c .if4 .taken)
 
-judge-requires : tie.Need-judge-requires
-judge-requires c κs = search needs
-
 returns-5 : tie.Need-returns-5
 unfolding verdictOf
 returns-5 c = let i = c .before .before .before .before in simp (le-ltb _ _ (i .before .if1 .left), i .if2 .left, eq-eqb _ _ (c .before .before .if3 .left), c .before .if4 .left) (c .judge .ensures)
 
 pub finish-spec : {M : Type 1} → statement M
-finish-spec = tie.close (tie.spec returns returns-2 returns-3 returns-4 judge-requires returns-5)
+finish-spec = tie.close (tie.spec
+    returns returns-2 returns-3 returns-4 (λ c κs. search needs) returns-5)

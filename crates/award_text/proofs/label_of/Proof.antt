@@ -3,45 +3,18 @@ use Rattle.award_text.specs.Text.{labelOf}
 use borrow.Author.Needs.{needs}
 use Rattle.award_text.proofs.label_of.Statement.{statement}
 use Rattle.award_text.proofs.label_of.Tie as tie
-use Rattle.award_text.proofs.label_of.Reads as reads
-use Rattle.award_text.proofs.label_of.Lts as lts
-use Rattle.request_line.proofs.begins.Reads as begins-reads
-
-slice-aggregate-begins : tie.Need-slice-aggregate-begins
-slice-aggregate-begins c = search needs
-
-begins-requires : tie.Need-begins-requires
-begins-requires c κs = search needs
 
 returns : tie.Need-returns
 unfolding labelOf
 returns c = (simp (sym (c .before .begins .ensures .0) ∙ c .if1 .taken), c .before .begins .ensures .1 (c .if1 .taken))
 
-slice-aggregate-begins-2 : tie.Need-slice-aggregate-begins-2
-slice-aggregate-begins-2 c = search needs
-
-begins-requires-2 : tie.Need-begins-requires-2
-begins-requires-2 c κs = search needs
-
 returns-2 : tie.Need-returns-2
 unfolding labelOf
 returns-2 c = (simp (sym (c .before .before .before .before .begins .ensures .0) ∙ c .before .before .before .if1 .left, sym (c .before .begins2 .ensures .0) ∙ c .if2 .taken), c .before .begins2 .ensures .1 (c .if2 .taken))
 
-slice-aggregate-begins-3 : tie.Need-slice-aggregate-begins-3
-slice-aggregate-begins-3 c = search needs
-
-begins-requires-3 : tie.Need-begins-requires-3
-begins-requires-3 c κs = search needs
-
 returns-3 : tie.Need-returns-3
 unfolding labelOf
 returns-3 c = (simp (sym (c .before .before .before .before .before .before .before .begins .ensures .0) ∙ c .before .before .before .before .before .before .if1 .left, sym (c .before .before .before .before .begins2 .ensures .0) ∙ c .before .before .before .if2 .left, sym (c .before .begins3 .ensures .0) ∙ c .if3 .taken), c .before .begins3 .ensures .1 (c .if3 .taken))
-
-slice-aggregate-begins-4 : tie.Need-slice-aggregate-begins-4
-slice-aggregate-begins-4 c = search needs
-
-begins-requires-4 : tie.Need-begins-requires-4
-begins-requires-4 c κs = search needs
 
 returns-4 : tie.Need-returns-4
 unfolding labelOf
@@ -55,16 +28,5 @@ pub label-of-spec : {M : Type 1} → statement M
 label-of-spec =
     tie.close
     (tie.spec
-    slice-aggregate-begins
-    begins-requires
-    returns
-    slice-aggregate-begins-2
-    begins-requires-2
-    returns-2
-    slice-aggregate-begins-3
-    begins-requires-3
-    returns-3
-    slice-aggregate-begins-4
-    begins-requires-4
-    returns-4
-    returns-5)
+    (λ c. search needs) (λ c κs. search needs) returns (λ c. search needs) (λ c κs. search needs) returns-2 (λ c. search needs) (λ c κs. search needs)
+    returns-3 (λ c. search needs) (λ c κs. search needs) returns-4 returns-5)

@@ -4,63 +4,18 @@ use Rattle.lent_award.specs.Answer.{awardAnswer, PlaceFits}
 use borrow.Author.Needs.{needs}
 use Rattle.lent_award.proofs.award_answer.Statement.{statement}
 use Rattle.lent_award.proofs.award_answer.Tie as tie
-use Rattle.lent_award.proofs.award_answer.Reads as reads
-use Rattle.lent_award.proofs.award_answer.Lts as lts
-use Rattle.answers.proofs.answer.Reads as answer-reads
-
-enum-told : tie.Need-enum-told
-enum-told c = search needs
-
-answer-requires : tie.Need-answer-requires
-answer-requires c κs = search needs
-
-enum-told-2 : tie.Need-enum-told-2
-enum-told-2 c = search needs
-
-answer-requires-2 : tie.Need-answer-requires-2
-answer-requires-2 c κs = search needs
-
-enum-known-checked : tie.Need-enum-known-checked
-enum-known-checked c = search needs
 
 cast-answer : tie.Need-cast-answer
 cast-answer c = let w = c .before in let h = subst PlaceFits (w .checked .given .1) (w .before .before .pre) in omega (arith, h)
 
-answer-requires-3 : tie.Need-answer-requires-3
-answer-requires-3 c κs = search needs
-
-enum-known-checked-2 : tie.Need-enum-known-checked-2
-enum-known-checked-2 c = search needs
-
 cast-answer-2 : tie.Need-cast-answer-2
 cast-answer-2 c = let w = c .before in let h = subst PlaceFits (w .checked2 .given .1) (w .before .before .pre) in omega (arith, h)
-
-answer-requires-4 : tie.Need-answer-requires-4
-answer-requires-4 c κs = search needs
-
-enum-known-checked-3 : tie.Need-enum-known-checked-3
-enum-known-checked-3 c = search needs
 
 cast-answer-3 : tie.Need-cast-answer-3
 cast-answer-3 c = let w = c .before in let h = subst PlaceFits (w .checked3 .given .1) (w .before .before .pre) in omega (arith, h)
 
-answer-requires-5 : tie.Need-answer-requires-5
-answer-requires-5 c κs = search needs
-
-enum-known-checked-4 : tie.Need-enum-known-checked-4
-enum-known-checked-4 c = search needs
-
 cast-answer-4 : tie.Need-cast-answer-4
 cast-answer-4 c = let w = c .before in let h = subst PlaceFits (w .checked4 .given .1) (w .before .before .pre) in omega (arith, h)
-
-answer-requires-6 : tie.Need-answer-requires-6
-answer-requires-6 c κs = search needs
-
-enum-told-3 : tie.Need-enum-told-3
-enum-told-3 c = search needs
-
-answer-requires-7 : tie.Need-answer-requires-7
-answer-requires-7 c κs = search needs
 
 returns : tie.Need-returns
 unfolding awardAnswer
@@ -94,28 +49,6 @@ pub award-answer-spec : {M : Type 1} → statement M
 award-answer-spec =
     tie.close
     (tie.spec
-    enum-told
-    answer-requires
-    enum-told-2
-    answer-requires-2
-    enum-known-checked
-    cast-answer
-    answer-requires-3
-    enum-known-checked-2
-    cast-answer-2
-    answer-requires-4
-    enum-known-checked-3
-    cast-answer-3
-    answer-requires-5
-    enum-known-checked-4
-    cast-answer-4
-    answer-requires-6
-    enum-told-3
-    answer-requires-7
-    returns
-    returns-2
-    returns-3
-    returns-4
-    returns-5
-    returns-6
-    returns-7)
+    (λ c. search needs) (λ c κs. search needs) (λ c. search needs) (λ c κs. search needs) (λ c. search needs) cast-answer (λ c κs. search needs)
+    (λ c. search needs) cast-answer-2 (λ c κs. search needs) (λ c. search needs) cast-answer-3 (λ c κs. search needs) (λ c. search needs) cast-answer-4
+    (λ c κs. search needs) (λ c. search needs) (λ c κs. search needs) returns returns-2 returns-3 returns-4 returns-5 returns-6 returns-7)
