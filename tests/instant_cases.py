@@ -2,7 +2,7 @@
 """Prints test cases for the arithmetic on instants, one per line.
 
 Written from document 01 (headings "Instants" and "Numbers the model rests on"),
-from wish 3 of document 02 (the last day of a year) and from routine gstime of
+from wishes 3 and 12 of document 02 (the last day of a year, two moves) and from routine gstime of
 document 002, and from nothing else: the calendar is
 Python's own, every number is a whole number or a fraction, and each f64
 operation is the exact result rounded once by Python's int / int.
@@ -19,6 +19,10 @@ numbers in two's complement, f64 numbers as their bit patterns.
                                   microseconds of that day; zeros for an
                                   instant outside 1957-2056
   move INSTANT SPAN REFUSAL NEW   refusal 9, then 6; NEW is 0 when refused
+  twice INSTANT FIRST SECOND NEW  moved by one span and then by another; where a
+                                  move is refused NEW is its refusal's number with a
+                                  minus sign
+  back INSTANT SPAN REFUSAL NEW   moved by a span and then by as much the other way
   since INSTANT EPOCH REFUSAL MICROS
                                   INSTANT less EPOCH; refusal 6, with MICROS 0,
                                   where either is outside 1957-2056
@@ -90,6 +94,19 @@ def move(instant, span):
     if not (inside(instant) and inside(instant + span)):
         return 6, 0
     return 0, instant + span
+
+
+def twice(instant, first, second):
+    for span in (first, second):
+        refusal, instant = move(instant, span)
+        if refusal:
+            return -refusal
+    return instant
+
+
+def back(instant, span):
+    refusal, there = move(instant, span)
+    return move(there, -span) if refusal == 0 else (refusal, 0)
 
 
 def since(instant, epoch):
@@ -234,6 +251,22 @@ def move_cases(rng):
         yield rng.randrange(END), rng.getrandbits(64) - 2**63
 
 
+def twice_cases(rng):
+    limit = SPAN_LIMIT
+    spans = (0, 1, -1, DAY, -DAY, limit, -limit, limit + 1, -limit - 1, 2**63 - 1, -2**63)
+    instants = (0, 1, DAY, limit, limit + 1, END // 2, END - limit, END - 1, END, 2**64 - 1)
+    for instant in instants:
+        for first in spans:
+            for second in spans:
+                yield instant, first, second
+    for _ in range(200):                                # each span and their sum in range, the middle at an end
+        instant, middle = rng.randrange(limit), rng.choice((0, -1, 1))
+        yield instant, middle - instant, rng.randrange(limit)
+        yield END - 1 - instant, instant + middle, -rng.randrange(limit)
+    for _ in range(200):
+        yield rng.randrange(END), rng.randint(-limit, limit), rng.randint(-limit, limit)
+
+
 def since_cases(rng):
     middle = epoch(2000, 179_78495062)[1]
     ends = (0, 1, middle, SPAN_LIMIT, SPAN_LIMIT + 1, END - 2, END - 1) + OUTSIDE
@@ -288,6 +321,9 @@ def cases(seed):
         for name, of in (("days", epoch_days), ("jd", julian_date), ("gst", greenwich)):
             answer = [number(0), bits(of(instant))] if inside(instant) else [number(6), number(0)]
             yield name, [number(instant), *answer]
+    for instant, first, second in twice_cases(rng):
+        yield "twice", [number(n) for n in (instant, first, second, twice(instant, first, second))]
+        yield "back", [number(n) for n in (instant, first, *back(instant, first))]
     for instant, start in since_cases(rng):
         yield "since", [number(n) for n in (instant, start, *since(instant, start))]
 

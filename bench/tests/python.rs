@@ -129,6 +129,14 @@ fn instants() {
                 Ok(instant) => vec![0, instant],
                 Err(refusal) => vec![refusal as i64, 0],
             },
+            "twice" => match instant::moved(n[0], n[1]).and_then(|middle| instant::moved(middle, n[2])) {
+                Ok(instant) => vec![instant],
+                Err(refusal) => vec![-(refusal as i64)],
+            },
+            "back" => match instant::moved(n[0], n[1]).and_then(|there| instant::moved(there, -n[1])) {
+                Ok(instant) => vec![0, instant],
+                Err(refusal) => vec![refusal as i64, 0],
+            },
             "minutes" => vec![bits(instant::minutes(n[0]))],
             "since" if inside(n[0]) && inside(n[1]) => vec![0, n[0] - n[1]],
             "since" => vec![6, 0],

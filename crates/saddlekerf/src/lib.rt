@@ -25,12 +25,20 @@ ghost use Rattle.lent_requests.specs.Requests as R;
 ghost use Rattle.lent_windows.specs.Windows as W;
 ghost use Rattle.award.specs.Plan.{answerOf};
 ghost use Rattle.lent_award.specs.Answer.{awardAnswer};
+ghost use Rattle.instant.specs.Calendar.{dateOf};
+ghost use Rattle.instant.specs.Move.{moveOf};
+ghost use Rattle.lent_instants.specs.Instants.{movedAnswer, movedPut, instantOf, dateAnswer, dateOver};
 ghost use Rattle.saddlekerf.specs.Version.{version, boundary};
 use columns::checksum;
+use instant::Instant;
+use instant::Microseconds;
 use lent_award::check_held;
 use lent_changes::compare_held;
 use lent_fields::form_answer;
 use lent_fields::meaning_answer;
+use lent_instants::date_answer;
+use lent_instants::instant_answer;
+use lent_instants::move_answer;
 use lent_opening::open_held;
 use lent_pairs::epoch_answer;
 use lent_pairs::fill_answer;
@@ -263,4 +271,30 @@ pub extern "C" fn saddlekerf_award(
     ensures { λ r. ⌜ r ≡ awardAnswer (answerOf (now (offers .entry)) (now (entries .entry)) total turnaround) ⌝ }
 {
     check_held(offers, entries, total, turnaround)
+}
+
+// An instant moved by a span.
+#[no_mangle]
+pub extern "C" fn saddlekerf_move(instant: u64, span: i64, moved: &mut u64) -> u64
+    ensures { λ r. ⌜ r ≡ movedAnswer (moveOf instant span) ⌝ }
+    ensures { λ _. ⌜ now (moved .exit) ≡ movedPut (moveOf instant span) (now (moved .entry)) ⌝ }
+{
+    move_answer(Instant(instant), Microseconds(span), moved)
+}
+
+// An instant as a date: year, day of the year from 1, microseconds of that day.
+#[no_mangle]
+pub extern "C" fn saddlekerf_date(instant: u64, date: &mut [u64]) -> u64
+    ensures { λ r. ⌜ (r ≡ dateAnswer (dateOf instant) (length (now (date .entry)))) × (now (date .exit) ≡ dateOver (dateOf instant) (now (date .entry))) ⌝ }
+{
+    date_answer(Instant(instant), date)
+}
+
+// The instant of a date.
+#[no_mangle]
+pub extern "C" fn saddlekerf_instant(year: u64, day: u64, micros: u64, instant: &mut u64) -> u64
+    ensures { λ r. ⌜ r ≡ movedAnswer (instantOf year day micros) ⌝ }
+    ensures { λ _. ⌜ now (instant .exit) ≡ movedPut (instantOf year day micros) (now (instant .entry)) ⌝ }
+{
+    instant_answer(year, day, micros, instant)
 }

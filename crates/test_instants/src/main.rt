@@ -27,9 +27,9 @@ struct Line {
 // How many lines of each operation were compared, how many differ, and the number of the first.
 struct Tallies {
     lines: u64,
-    compared: [u64; 9],
-    differ: [u64; 9],
-    first: [u64; 9],
+    compared: [u64; 11],
+    differ: [u64; 11],
+    first: [u64; 11],
 }
 
 struct Run {
@@ -173,6 +173,25 @@ fn move_right(instant: u64, span: u64, refusal: u64, moved: u64) -> bool {
     }
 }
 
+// A refusal stands for the instant as its number with a minus sign.
+fn twice_right(instant: u64, first: u64, second: u64, result: u64) -> bool {
+    let x = Microseconds(signed(first));
+    let y = Microseconds(signed(second));
+    match moves::move_twice(Instant(instant), x, y) {
+        Moved::To(t) => result == t.0,
+        Moved::TooFar => result == 0xfffffffffffffff7,
+        Moved::Outside => result == 0xfffffffffffffffa,
+    }
+}
+
+fn back_right(instant: u64, span: u64, refusal: u64, moved: u64) -> bool {
+    match moves::move_there_and_back(Instant(instant), Microseconds(signed(span))) {
+        Moved::To(t) => (refusal == 0) & (moved == t.0),
+        Moved::TooFar => (refusal == 9) & (moved == 0),
+        Moved::Outside => (refusal == 6) & (moved == 0),
+    }
+}
+
 fn since_right(instant: u64, epoch: u64, refusal: u64, micros: u64) -> bool {
     match instant::since(Instant(instant), Instant(epoch)) {
         Elapsed::Is(t) => (refusal == 0) & (signed(micros) == t.0),
@@ -196,10 +215,10 @@ fn angle_right(angle: Angle, refusal: u64, bits: u64) -> bool {
 
 // The place of an operation among those counted, and the last place for a name that is none.
 fn place(name: u64) -> usize
-    ensures { λ r. ⌜ r < 9 ⌝ }
+    ensures { λ r. ⌜ r < 11 ⌝ }
 {
     match name {
-        // epoch, split, move, since, minutes, days, jd, gst
+        // epoch, split, move, since, minutes, days, jd, gst, twice, back
         0x65706f6368 => 0,
         0x73706c6974 => 1,
         0x6d6f7665 => 2,
@@ -208,7 +227,9 @@ fn place(name: u64) -> usize
         0x64617973 => 5,
         0x6a64 => 6,
         0x677374 => 7,
-        _ => 8,
+        0x7477696365 => 8,
+        0x6261636b => 9,
+        _ => 10,
     }
 }
 
@@ -219,6 +240,8 @@ fn four_right(op: usize, a: u64, b: u64, c: u64, d: u64) -> bool {
         1 => split_right(a, b, c, d),
         2 => move_right(a, b, c, d),
         3 => since_right(a, b, c, d),
+        8 => twice_right(a, b, c, d),
+        9 => back_right(a, b, c, d),
         _ => false,
     }
 }
@@ -362,15 +385,17 @@ fn print_tallies(failed: &mut bool, t: Tallies) {
     print_tally(failed, b"days: ", n[5], d[5], f[5]);
     print_tally(failed, b"jd: ", n[6], d[6], f[6]);
     print_tally(failed, b"gst: ", n[7], d[7], f[7]);
-    print_tally(failed, b"unreadable: ", n[8], d[8], f[8]);
+    print_tally(failed, b"twice: ", n[8], d[8], f[8]);
+    print_tally(failed, b"back: ", n[9], d[9], f[9]);
+    print_tally(failed, b"unreadable: ", n[10], d[10], f[10]);
 }
 
 fn main() {
     let tallies = Tallies {
         lines: 0,
-        compared: [0; 9],
-        differ: [0; 9],
-        first: [0; 9],
+        compared: [0; 11],
+        differ: [0; 11],
+        first: [0; 11],
     };
     let mut failed = false;
     let run = read_all(
