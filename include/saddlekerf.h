@@ -140,6 +140,9 @@ extern "C" {
 /* The largest bid, in cents. */
 #define SADDLEKERF_BID_LIMIT INT64_C(1000000000)
 
+/* Elements of a date: year, day of the year, microseconds of that day. */
+#define SADDLEKERF_DATE 3
+
 /* Refusal numbers. */
 enum saddlekerf_refusal_number {
     SADDLEKERF_ANSWERED = 0,
@@ -148,10 +151,10 @@ enum saddlekerf_refusal_number {
     SADDLEKERF_COLUMN = 3,                /* a column breaks the layout */
     SADDLEKERF_CHECKSUM = 4,              /* the checksum differs */
     SADDLEKERF_CATALOGUE = 5,             /* the catalogue numbers of the lines differ */
-    SADDLEKERF_RANGE = 6,                 /* a field is out of its range */
+    SADDLEKERF_RANGE = 6,                 /* a field is out of its range; an instant outside 1957-2056 */
     SADDLEKERF_PERIGEE = 7,               /* perigee at epoch below one Earth radius */
     SADDLEKERF_RECORD_NOT_FINITE = 8,     /* a number of the opened satellite is not finite */
-    SADDLEKERF_TIME = 9,                  /* time beyond 3,652 days */
+    SADDLEKERF_TIME = 9,                  /* time, or a move, beyond 3,652 days */
     SADDLEKERF_MEAN_MOTION = 10,          /* mean motion <= 0 */
     SADDLEKERF_MEAN_ECCENTRICITY = 11,    /* mean e >= 1 or < -0.001, or axis < 0.95 */
     SADDLEKERF_ECCENTRICITY = 12,         /* perturbed e < 0 or > 1 */
@@ -435,6 +438,32 @@ uint64_t saddlekerf_changes(const uint8_t *first, size_t first_length,
                             const uint8_t *second, size_t second_length,
                             const uint64_t *row2, size_t row2_length,
                             uint8_t *out, size_t out_length);
+
+/* ---- an instant ---- */
+
+/*
+ * Moves an instant by a span in microseconds, at most SADDLEKERF_TIME_LIMIT either way. The instant
+ * reached goes into *moved (not null), which stays where the move is refused. Moving by 0 changes
+ * nothing; where two spans, their sum and the instants reached lie in range, moving by one and then by
+ * the other is moving by their sum, and moving there and back returns to the start.
+ * Answer: 0; 9 where the span is beyond 3,652 days; 6 (with no field) where the instant given or reached
+ * lies outside 1957-2056.
+ */
+uint64_t saddlekerf_move(uint64_t instant, int64_t span, uint64_t *moved);
+
+/*
+ * The date of an instant: year, day of the year from 1 and microseconds of that day go into the first 3
+ * elements of date; what lies past them stays.
+ * Answer: 0; 6 (with no field) where the instant lies outside 1957-2056; 17 where date is too short.
+ */
+uint64_t saddlekerf_date(uint64_t instant, uint64_t *date, size_t date_length);
+
+/*
+ * The instant of a date, which goes into *instant (not null); it stays where the date is refused.
+ * Answer: 0; 6 (with no field) where the year is outside 1957-2056, the year has no such day, or the
+ * microseconds are a day or more.
+ */
+uint64_t saddlekerf_instant(uint64_t year, uint64_t day, uint64_t micros, uint64_t *instant);
 
 /* ---- an award plan ---- */
 

@@ -1,6 +1,6 @@
 /*
  * Uses the library from C: reads, prints and opens pairs, reads and writes records, lodges pairs in a
- * roster with its row and withdraws them, lists what changed between two, checks an award plan, asks for one time, for lists and for windows, and holds every answer, bit for bit, to document 01's example and to the rows of the
+ * roster with its row and withdraws them, lists what changed between two, moves instants, checks an award plan, asks for one time, for lists and for windows, and holds every answer, bit for bit, to document 01's example and to the rows of the
  * published test set; what memory holds afterwards too, with NaNs in it whose own bits must stay.
  *
  *   c_example bench/vectors/published-rows.txt
@@ -580,6 +580,28 @@ static uint32_t strides_at(saddlekerf_satellite *s, int64_t time)
     return saddlekerf_strides(saddlekerf_satellite_request(s, time, state));
 }
 
+/* Instants moved, dated, and made from dates; what is lent stays where they are refused. */
+static void move_instants(void)
+{
+    const uint64_t day = UINT64_C(86400000000);
+    const uint64_t end = 36525 * UINT64_C(86400000000);
+    uint64_t moved = 42, date[SADDLEKERF_DATE + 1] = {7, 7, 7, 7};
+
+    CHECK(saddlekerf_move(0, SADDLEKERF_TIME_LIMIT + 1, &moved) == SADDLEKERF_TIME && moved == 42);
+    CHECK(saddlekerf_move(0, -1, &moved) == SADDLEKERF_RANGE && moved == 42);
+    CHECK(saddlekerf_move(end, 0, &moved) == SADDLEKERF_RANGE && moved == 42);
+    CHECK(saddlekerf_move(end - 1, 0, &moved) == SADDLEKERF_ANSWERED && moved == end - 1);
+    CHECK(saddlekerf_move(moved, -SADDLEKERF_TIME_LIMIT, &moved) == SADDLEKERF_ANSWERED);
+    CHECK(saddlekerf_move(moved, SADDLEKERF_TIME_LIMIT, &moved) == SADDLEKERF_ANSWERED && moved == end - 1);
+    CHECK(saddlekerf_date(end, date, SADDLEKERF_DATE) == SADDLEKERF_RANGE && date[0] == 7);
+    CHECK(saddlekerf_date(end - 1, date, SADDLEKERF_DATE - 1) == SADDLEKERF_ROOM && date[0] == 7);
+    CHECK(saddlekerf_date(end - 1, date, SADDLEKERF_DATE + 1) == SADDLEKERF_ANSWERED);
+    CHECK(date[0] == 2056 && date[1] == 366 && date[2] == day - 1 && date[3] == 7);
+    CHECK(saddlekerf_instant(2001, 366, 0, &moved) == SADDLEKERF_RANGE && moved == end - 1);
+    CHECK(saddlekerf_instant(2000, 366, day, &moved) == SADDLEKERF_RANGE && moved == end - 1);
+    CHECK(saddlekerf_instant(1957, 2, 3, &moved) == SADDLEKERF_ANSWERED && moved == day + 3);
+}
+
 static uint64_t award_of(const uint64_t *offers, size_t count, const uint64_t *entries, size_t named, uint64_t total,
                          uint64_t turnaround)
 {
@@ -1050,6 +1072,7 @@ int main(int argc, char **argv)
     fill_roster();
     count_pairs();
     compare_rosters();
+    move_instants();
     check_plan();
     count_strides();
     keep_memory();

@@ -45,6 +45,9 @@ uint64_t __real_saddlekerf_request_list(SATELLITE, const int64_t *times, size_t 
         size_t firsts_length, uint64_t *lasts, size_t lasts_length
 uint64_t __real_saddlekerf_windows(SATELLITE, STATION);
 
+uint64_t __real_saddlekerf_move(uint64_t instant, int64_t span, uint64_t *moved);
+uint64_t __real_saddlekerf_date(uint64_t instant, uint64_t *date, size_t date_length);
+uint64_t __real_saddlekerf_instant(uint64_t year, uint64_t day, uint64_t micros, uint64_t *instant);
 uint64_t __real_saddlekerf_award(const uint64_t *offers, size_t offers_length, const uint64_t *entries,
                                  size_t entries_length, uint64_t total, uint64_t turnaround);
 
@@ -382,5 +385,35 @@ uint64_t __wrap_saddlekerf_award(const uint64_t *offers, size_t offers_length, c
         a += 1 << 16; /* entries counted from 1 */
     if (saddlekerf_refusal(a) == SADDLEKERF_LIST && wrong("award-many"))
         return SADDLEKERF_ANSWERED;
+    return a;
+}
+
+uint64_t __wrap_saddlekerf_move(uint64_t instant, int64_t span, uint64_t *moved)
+{
+    const uint64_t a = __real_saddlekerf_move(instant, span, moved);
+    if (a == SADDLEKERF_RANGE && wrong("move-outside")) { /* the instant reached is not judged */
+        *moved = instant + (uint64_t)span;
+        return SADDLEKERF_ANSWERED;
+    }
+    if (a != 0 && wrong("move-refused"))
+        *moved = 0;
+    return a == SADDLEKERF_TIME && wrong("move-number") ? SADDLEKERF_RANGE : a;
+}
+
+uint64_t __wrap_saddlekerf_date(uint64_t instant, uint64_t *date, size_t date_length)
+{
+    const uint64_t a = __real_saddlekerf_date(instant, date, date_length);
+    if (a == 0 && wrong("date-from-zero"))
+        date[1]--;
+    if (a == 0 && date_length > SADDLEKERF_DATE && wrong("date-past"))
+        date[SADDLEKERF_DATE] = 0;
+    return a;
+}
+
+uint64_t __wrap_saddlekerf_instant(uint64_t year, uint64_t day, uint64_t micros, uint64_t *instant)
+{
+    const uint64_t a = __real_saddlekerf_instant(year, day, micros, instant);
+    if (a != 0 && day == 366 && wrong("instant-short-year")) /* day 366 of a common year */
+        return __real_saddlekerf_instant(year + 1, 1, micros, instant);
     return a;
 }

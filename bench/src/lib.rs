@@ -12,6 +12,7 @@
 //! - [`report`]: the pairs of a text counted.
 //! - [`changes`]: what changed between two rosters.
 //! - [`award`]: award plans checked.
+//! - [`moves`]: instants moved twice, and dated.
 //! - [`sgp4`]: 002's model.
 //! - [`request`]: opening, single requests and lists, the saved position.
 //! - [`windows`]: the Earth-fixed frame, and when a satellite is above a station.
@@ -26,6 +27,7 @@ pub mod elementary;
 pub mod generate;
 pub mod instant;
 pub mod library;
+pub mod moves;
 pub mod proved;
 pub mod published;
 pub mod random;

@@ -197,6 +197,12 @@ mod c {
             total: u64,
             turnaround: u64,
         ) -> u64;
+
+        pub fn saddlekerf_move(instant: u64, span: i64, moved: *mut u64) -> u64;
+
+        pub fn saddlekerf_date(instant: u64, date: *mut u64, date_length: usize) -> u64;
+
+        pub fn saddlekerf_instant(year: u64, day: u64, micros: u64, instant: *mut u64) -> u64;
     }
 }
 
@@ -438,10 +444,25 @@ pub fn award(offers: &[u64], entries: &[u64], total: u64, turnaround: u64) -> u6
     }
 }
 
+pub fn move_by(instant: u64, span: i64, moved: &mut u64) -> u64 {
+    // SAFETY: `moved` is a mutable reference to one u64.
+    unsafe { c::saddlekerf_move(instant, span, moved) }
+}
+
+pub fn date(instant: u64, date: &mut [u64]) -> u64 {
+    // SAFETY: a mutable slice.
+    unsafe { c::saddlekerf_date(instant, date.as_mut_ptr(), date.len()) }
+}
+
+pub fn instant(year: u64, day: u64, micros: u64, instant: &mut u64) -> u64 {
+    // SAFETY: `instant` is a mutable reference to one u64.
+    unsafe { c::saddlekerf_instant(year, day, micros, instant) }
+}
+
 #[cfg(test)]
 mod tests {
     use super::*;
-    use crate::{Offer, Plan, Record, Report, Roster, Satellite, PRINT_ROOM};
+    use crate::{Instant, Offer, Plan, Record, Report, Roster, Satellite, PRINT_ROOM};
 
     /// The numbers written here are the header's.
     #[test]
@@ -471,6 +492,7 @@ mod tests {
         assert_eq!(defined("OFFER_NUMBERS"), Offer::NUMBERS as i64);
         assert_eq!(defined("PLAN_LIMIT"), Plan::LIMIT as i64);
         assert_eq!(defined("BID_LIMIT"), Offer::BID_LIMIT as i64);
+        assert_eq!(defined("DATE"), Instant::DATE_NUMBERS as i64);
         assert_eq!(defined("VERSION"), VERSION as i64);
     }
 

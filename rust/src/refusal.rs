@@ -2,6 +2,7 @@
 
 use crate::award::PlanRefusal;
 use crate::roster::{Uncompared, Which};
+use crate::time::Unmoved;
 use std::fmt;
 
 /// One of the two lines of a set.
@@ -223,6 +224,16 @@ impl Answer {
             (0x216, 0) => Some(Err(Uncompared::NoRoster(Which::Second))),
             (17, 0) => Some(Err(Uncompared::Room)),
             _ => None,
+        }
+    }
+
+    /// The answer of a move or a date.
+    pub fn moved(self) -> Result<(), Unmoved> {
+        match self.0 {
+            0 => Ok(()),
+            6 => Err(Unmoved::Outside),
+            9 => Err(Unmoved::TooFar),
+            _ => self.foreign(),
         }
     }
 

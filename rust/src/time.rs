@@ -1,4 +1,9 @@
-//! Quantities of time, kept apart.
+//! Quantities of time, kept apart, and instants moved and dated.
+
+use crate::ffi;
+use crate::refusal::Answer as Packed;
+use crate::Date;
+use std::fmt;
 
 /// A time since a satellite's epoch, negative before it.
 ///
@@ -34,7 +39,77 @@ impl Instant {
         let apart = self.0 as i128 - epoch.0 as i128;
         Microseconds(apart.clamp(i64::MIN as i128, i64::MAX as i128) as i64)
     }
+
+    /// Numbers of a date in lent memory.
+    pub const DATE_NUMBERS: usize = 3;
+
+    /// This instant moved by a span. Two moves, where both are made, their instants lie in the calendar and
+    /// the sum of their spans is at most [`LIMIT`](Microseconds::LIMIT), are one move by that sum; a move
+    /// there and back returns to the start.
+    ///
+    /// ```
+    /// use saddlekerf::{Date, Instant, Microseconds, Unmoved};
+    ///
+    /// let slot = Instant::from_date(Date { year: 2000, day: 179, microseconds: 0 }).unwrap();
+    /// let hour = Microseconds::from_minutes(60);
+    /// let moved = slot.moved(hour)?.moved(hour)?;
+    /// assert_eq!(moved, slot.moved(Microseconds::from_minutes(120))?);
+    /// assert_eq!(moved.date().unwrap().to_string(), "2000 179 7200000000");
+    /// assert_eq!(Instant(0).moved(Microseconds(-1)), Err(Unmoved::Outside));
+    /// # Ok::<(), Unmoved>(())
+    /// ```
+    pub fn moved(self, span: Microseconds) -> Result<Instant, Unmoved> {
+        let mut moved = 0;
+        Packed(ffi::move_by(self.0, span.0, &mut moved)).moved()?;
+        Ok(Instant(moved))
+    }
+
+    /// The date of this instant; none outside 1957-2056.
+    pub fn date(self) -> Option<Date> {
+        let mut date = [0; Instant::DATE_NUMBERS];
+        Packed(ffi::date(self.0, &mut date)).moved().ok()?;
+        let [year, day, microseconds] = date;
+        Some(Date { year, day, microseconds })
+    }
+
+    /// The instant of a date; none where the year is outside 1957-2056 or has no such day, or the
+    /// microseconds are a day or more.
+    pub fn from_date(date: Date) -> Option<Instant> {
+        let mut instant = 0;
+        Packed(ffi::instant(date.year, date.day, date.microseconds, &mut instant)).moved().ok()?;
+        Some(Instant(instant))
+    }
 }
+
+/// Why an instant is not moved.
+#[derive(Clone, Copy, Debug, PartialEq, Eq, Hash)]
+pub enum Unmoved {
+    /// 9: the span is beyond 3,652 days.
+    TooFar,
+    /// 6: the instant given or reached lies outside 1957-2056.
+    Outside,
+}
+
+impl Unmoved {
+    /// The refusal's number: 9 or 6.
+    pub const fn number(self) -> u8 {
+        match self {
+            Unmoved::TooFar => 9,
+            Unmoved::Outside => 6,
+        }
+    }
+}
+
+impl fmt::Display for Unmoved {
+    fn fmt(&self, f: &mut fmt::Formatter<'_>) -> fmt::Result {
+        match self {
+            Unmoved::TooFar => f.write_str("refusal 9: a move beyond 3,652 days"),
+            Unmoved::Outside => f.write_str("refusal 6: an instant outside 1957-2056"),
+        }
+    }
+}
+
+impl std::error::Error for Unmoved {}
 
 /// A number of integrator strides, of 720 minutes each.
 #[derive(Clone, Copy, Debug, Default, PartialEq, Eq, PartialOrd, Ord, Hash)]

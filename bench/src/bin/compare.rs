@@ -8,7 +8,7 @@
 //! how many records are written (20000), `--rosters` how many rosters take some
 //! twenty calls each (2000), `--changes` how many two rosters are compared (2000),
 //! `--windows` how many pairs are asked for windows, some ten calls each (10000),
-//! `--awards` how many award plans are checked (100000);
+//! `--awards` how many award plans are checked and as many instants moved (100000);
 //! `--first` the number of the first case, to run one again. Prints the seed, how often each branch and refusal was met,
 //! and the first difference.
 
@@ -19,6 +19,7 @@ use port::compare::{
 };
 use port::elementary::Document;
 use port::library::{Library, Port};
+use port::moves;
 use port::proved::Proved;
 use std::process::ExitCode;
 
@@ -73,9 +74,17 @@ fn run() -> Result<Tally, Difference> {
         windows_case(seed, index, (&port, &Proved), &mut tally)?;
     }
     let awards = option("--awards", 100_000);
-    println!("and {awards} award plans");
+    println!("and {awards} award plans, as many instants moved");
     for index in first..first + awards {
         award::case(seed, index, (award::check, award::proved), &mut tally).map_err(|what| Difference {
+            case: String::new(),
+            line1: String::new(),
+            line2: String::new(),
+            what,
+        })?;
+    }
+    for index in first..first + awards {
+        moves::case(seed, index, (moves::moved, moves::proved), &mut tally).map_err(|what| Difference {
             case: String::new(),
             line1: String::new(),
             line2: String::new(),
