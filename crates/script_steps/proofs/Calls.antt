@@ -18,7 +18,8 @@ use Rattle.windows.specs.declared.WindowsAnswer.{WindowsAnswer}
 use Rattle.windows.specs.Windows.{Call, callRefusal, instantsFrom, samplesOf, windowsOf}
 use Rattle.windows.specs.Answer.{callOf, callTimes, windowsAt, windowed, WindowsPost}
 use Rattle.windows.proofs.Claims.{fits-places}
-use Rattle.script_steps.specs.Steps.{requestOf, callAt, laid, firstsOf, lastsOf, Called}
+use Rattle.script_steps.specs.Steps.{requestOf, callBy, callAt, laid, firstsOf, lastsOf, Called}
+use Rattle.script_steps.specs.declared.Asked.{Asked}
 use Rattle.script_steps.proofs.Rooms.{rest, back}
 
 absurd : {B : Type 0} → ⊥ → B
@@ -26,7 +27,7 @@ absurd = elim [ ]
 
 -- ── a call, in what is left of the rooms ──
 
-pub call-step : (n : ℕ) → n ≡ 1 → (s : Satellite) (m : ℕ) (station : List Float) (start step samples seen : ℕ) (f l : List ℕ) (r : WindowsAnswer) (f″ l″ : List ℕ)
+call-step : (n : ℕ) → n ≡ 1 → (s : Satellite) (m : ℕ) (station : List Float) (start step samples seen : ℕ) (f l : List ℕ) (r : WindowsAnswer) (f″ l″ : List ℕ)
     → seen ≤ length f → seen ≤ length l
     → WindowsPost s (callOf station start step samples (length (midOf seen (length f - seen) f)) (length (midOf seen (length l - seen) l))) (midOf seen (length f - seen) f) (midOf seen (length l - seen) l) r f″ l″
     → Called n (callOf station start step samples (length f - seen) (length l - seen)) s m seen f l (r .satellite) (r .strides .0) (r .windows)
@@ -46,6 +47,16 @@ call-step n e s m station start step samples seen f l r f″ l″ hf hl p =
       lasts = back l l″ seen hl ∙ ap (λ z. take seen l ++ z) (p .lasts ∙ ap (λ z. over (lastsOf (windowsAt s z)) (midOf seen (length l - seen) l)) same ∙ ap (over (lastsOf (windowsAt s q))) (rest l seen));
     } in
     subst (λ z. Called z q s m seen f l (r .satellite) (r .strides .0) (r .windows) (putMid seen (length f - seen) f f″) (putMid seen (length l - seen) l l″)) (sym e) one
+
+-- by what the request asks
+pub call-asked : (n : ℕ) → n ≡ 1 → (s : Satellite) (m : ℕ) (q x : Asked) → q ≡ x → (seen : ℕ) (f l : List ℕ) (r : WindowsAnswer) (f″ l″ : List ℕ)
+    → seen ≤ length f → seen ≤ length l
+    → WindowsPost s (callBy q (length (midOf seen (length f - seen) f)) (length (midOf seen (length l - seen) l))) (midOf seen (length f - seen) f) (midOf seen (length l - seen) l) r f″ l″
+    → Called n (callBy x (length f - seen) (length l - seen)) s m seen f l (r .satellite) (r .strides .0) (r .windows)
+    (putMid seen (length f - seen) f f″) (putMid seen (length l - seen) l l″)
+call-asked n e s m q x g seen f l r f″ l″ hf hl p =
+    subst (λ z. Called n (callBy z (length f - seen) (length l - seen)) s m seen f l (r .satellite) (r .strides .0) (r .windows) (putMid seen (length f - seen) f f″) (putMid seen (length l - seen) l l″)) g
+    (call-step n e s m (q .station) (q .start .0) (q .step .0) (q .samples) seen f l r f″ l″ hf hl p)
 
 -- any other request leaves them
 pub call-none : (n : ℕ) → (n ≡ 1 → ⊥) → (q : Call) (s : Satellite) (m seen : ℕ) (f l : List ℕ) → Called n q s m seen f l s m 0 f l

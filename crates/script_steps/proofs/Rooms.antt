@@ -59,11 +59,13 @@ many-step s ts rows a b c r a″ b″ c″ k ha hb hc p hk =
       rounds = back c c″ rows hc ∙ ap (λ z. take rows c ++ z) (p .rounds ∙ ap (λ z. over (roundsOf (rowsFrom s z)) (midOf rows (length c - rows) c)) same ∙ ap (over (roundsOf added)) (rest c rows));
     }
 
-pub none-added : (ts : List ℤ) (i j k n : ℕ) → (n ≡ 0 → ⊥) → n ≡ listRefusal (length ts) i j k → 0 ≡ length (listTimes ts i j k)
-none-added ts i j k n h e = rw (ne-eqb (listRefusal (length ts) i j k) 0 (λ z. h (e ∙ z)))
+added-by : (b : Bool) (ts : List ℤ) → cond b (length ts) 0 ≡ length (cond b ts [])
+added-by true ts = refl
+added-by false ts = refl
 
-pub all-added : (ts : List ℤ) (i j k n : ℕ) → n ≡ 0 → n ≡ listRefusal (length ts) i j k → length ts ≡ length (listTimes ts i j k)
-all-added ts i j k n h e = rw (eq-eqb (listRefusal (length ts) i j k) 0 (sym e ∙ h))
+-- the rows that are added are those of the list's times
+pub rows-added : (ts : List ℤ) (i j k n m : ℕ) → m ≡ cond (eqb n 0) (length ts) 0 → n ≡ listRefusal (length ts) i j k → m ≡ length (listTimes ts i j k)
+rows-added ts i j k n m h e = h ∙ ap (λ z. cond (eqb z 0) (length ts) 0) e ∙ added-by (eqb (listRefusal (length ts) i j k) 0) ts
 
 -- a request's rows are no more than it has room for
 clear : (p q r s : Bool) → _≡_ {A = ℕ} (cond p 18 (cond q 17 (cond r 17 (cond s 17 0)))) 0 → (q ≡ false) × (r ≡ false) × (s ≡ false)

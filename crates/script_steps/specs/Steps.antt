@@ -14,13 +14,25 @@ use Rattle.windows.specs.Windows.{Call}
 use Rattle.windows.specs.Answer.{callOf}
 use Rattle.sequences.specs.Demand3.{Request, One, Many, Windows, Outcome, outcome}
 use Rattle.script_room.specs.Room.{taken, roomFor, callsFor}
+use Rattle.script_steps.specs.declared.Asked.{Asked}
 
 -- ── the script ──
 
--- the call for windows of request j: its station is three of ps; its start, step and number of samples are three of qs; it is lent f and l places
+-- what request j asks where it is a call for windows: its station is three of ps; its start, step and number of samples are three of qs
+abbrev pub askedAt : ℕ → List Float → List ℕ → Asked
+askedAt j ps qs = record {
+  station = getD ps (3 * j) nan ∷ getD ps (3 * j + 1) nan ∷ getD ps (3 * j + 2) nan ∷ [];
+  start = record { 0 = getD qs (3 * j) 0 };
+  step = record { 0 = getD qs (3 * j + 1) 0 };
+  samples = getD qs (3 * j + 2) 0;
+}
+
+-- its call, which is lent f and l places
+abbrev pub callBy : Asked → ℕ → ℕ → Call
+callBy q f l = callOf (q .station) (q .start .0) (q .step .0) (q .samples) f l
+
 abbrev pub callAt : ℕ → List Float → List ℕ → ℕ → ℕ → Call
-callAt j ps qs f l =
-    callOf (getD ps (3 * j) nan ∷ getD ps (3 * j + 1) nan ∷ getD ps (3 * j + 2) nan ∷ []) (getD qs (3 * j) 0) (getD qs (3 * j + 1) 0) (getD qs (3 * j + 2) 0) f l
+callAt j ps qs f l = callBy (askedAt j ps qs) f l
 
 -- request j, of the times that are left, and of rooms with a, b and c elements left for rows, and f and l for windows
 abbrev pub requestOf : ℕ → ℕ → List ℤ → List Float → List ℕ → ℕ → ℕ → ℕ → ℕ → ℕ → Request

@@ -2,7 +2,8 @@
 // and calls for windows.
 ghost use mathlib.Core.Path.{_≡_};
 ghost use Prim.Native.Nat.{_+_, _-_, _*_, _/_, _≤_};
-ghost use mathlib.Core.Bool.{true};
+ghost use mathlib.Core.Bool.{true, cond};
+ghost use lib.Dec.{eqb};
 ghost use lib.ListN.{length};
 ghost use Rattle.sequences.specs.Demand3 as D;
 ghost use Rattle.script_room.specs.Room as R;
@@ -21,6 +22,16 @@ struct Stepped {
     satellite: Satellite,
     strides: Strides,
     rows: usize,
+}
+
+// The rows of a list of n times: none where it is refused.
+fn added(refusal: u8, n: usize) -> usize
+    ensures { λ r. ⌜ r ≡ cond (eqb refusal 0) n 0 ⌝ }
+{
+    if refusal == 0 {
+        return n;
+    }
+    0
 }
 
 // The next request: its times are put as one list, which is lent what is left of the rooms. One time is
@@ -47,20 +58,37 @@ fn step(
         &mut states[k..],
         &mut rounds[rows..],
     );
-    let refusal = a.refusal;
     let satellite = a.satellite;
     let strides = a.strides;
-    if refusal != 0 {
-        return Stepped {
-            satellite,
-            strides,
-            rows: 0,
-        };
-    }
+    let rows = added(a.refusal, times.len());
     Stepped {
         satellite,
         strides,
-        rows: times.len(),
+        rows,
+    }
+}
+
+// What a call for windows asks.
+struct Asked {
+    station: [f64; 3],
+    start: Instant,
+    step: Seconds,
+    samples: usize,
+}
+
+// What request j asks where it is a call.
+fn call_at(j: usize, stations: &[f64], spans: &[u64]) -> Asked
+    requires { ⌜ 3 * j + 3 ≤ length (now stations) ⌝ }
+    requires { ⌜ 3 * j + 3 ≤ length (now spans) ⌝ }
+    ensures { λ r. ⌜ r ≡ T.askedAt j (now (stations .entry)) (now (spans .entry)) ⌝ }
+{
+    let k = 3 * j;
+    let station = [stations[k], stations[k + 1], stations[k + 2]];
+    Asked {
+        station,
+        start: Instant(spans[k]),
+        step: Seconds(spans[k + 1]),
+        samples: spans[k + 2] as usize,
     }
 }
 
@@ -96,17 +124,14 @@ fn look(
             windows: 0,
         };
     }
-    let k = 3 * j;
-    let station = [stations[k], stations[k + 1], stations[k + 2]];
-    let start = Instant(spans[k]);
-    let step = Seconds(spans[k + 1]);
-    let samples = spans[k + 2] as usize;
+    let q = call_at(j, stations, spans);
+    let station = q.station;
     let a = windows(
         s,
         station,
-        start,
-        step,
-        samples,
+        q.start,
+        q.step,
+        q.samples,
         &mut firsts[seen..],
         &mut lasts[seen..],
     );
