@@ -3,8 +3,7 @@ use mathlib.Core.Path.{_≡_, refl, ap, subst}
 use mathlib.Core.List.{List}
 use Prim.Native.Nat.{ℕ}
 use lib.IntN.{ℤ}
-use Rattle.tle.specs.Legal.{inForm}
-use Rattle.tle.specs.Read.{formOf, meaningOf, ranged, readOf}
+use Rattle.tle.specs.Read.{formOf, given, meaningOf, ranged, readOf}
 use Rattle.tle.specs.declared.Fields as tle
 use Rattle.tle.specs.declared.Refusal.{Refusal}
 use Rattle.tle.specs.declared.Form.the-variants as form
@@ -26,7 +25,7 @@ form-in-bits line1 line2 why e = read-in-bits line1 line2 why (ap ranged e)
 
 meaning-fits : (f : tle.Fields) → ReadingFits (meaningOf f)
 unfolding meaningOf
-meaning-fits f = either ReadingFits (inForm (f .0)) _ _ tt (ranges-fit (f .0))
+meaning-fits f = either ReadingFits (f .1) _ _ tt (ranges-fit (f .0))
 
 fitting : (x : Reading) → ReadingFits x → cutAnswer x ≡ meaningAnswer (judged.Meaning x)
 unfolding cutAnswer meaningAnswer
@@ -38,7 +37,7 @@ JudgedFits (judged.Meaning x) = ReadingFits x
 JudgedFits judged.TooShort = Unit {0}
 
 given-fits : (g : Given) → JudgedFits (judgedBy g)
-given-fits (Fields r) = meaning-fits (record { 0 = r })
+given-fits (Fields r) = meaning-fits (given r)
 given-fits NoClass = tt
 given-fits TooShort = tt
 

@@ -11,7 +11,7 @@ use lib.ListN.{length, take, drop, getD}
 use lib.Seq.{drop-cons}
 use Rattle.columns.specs.Layout.{isLetter, isBlank}
 use Rattle.tle.specs.Legal.{legal, designatorFits}
-use Rattle.tle.specs.Read.{classOf}
+use Rattle.tle.specs.Read.{classOf, meaningOf}
 use Rattle.tle.specs.declared.Class.{Class}
 use Rattle.tle.specs.declared.Class.the-variants.{Unclassified, Classified, Secret}
 use Rattle.tle.specs.declared.Designator.{Designator}
@@ -108,9 +108,9 @@ stored-is-given r ns h k = rw (h, le-ltb (length ns) 22 k) (given-back r (drop 2
 pub judged-as-read : JudgedAsRead
 unfolding judgedOf fieldsOver fieldsRefusal
 judged-as-read line1 line2 f ns e k =
-    let h = forms-yield line1 line2 f e in
+    let h = forms-yield line1 line2 f e .0 in
     rw (h, le-ltb (length ns) 22 k, given-back (f .0) (drop 22 ns) (formed (f .0) h))
-    (ap judged.Meaning (gone-on line1 line2 (sym e) refl refl))
+    (ap judged.Meaning (gone-on line1 line2 (sym e) refl (ap meaningOf (sym (forms-yield line1 line2 f e .1)))))
 
 -- ── numbers that give a legal record are the record's ──
 

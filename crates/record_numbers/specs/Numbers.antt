@@ -11,7 +11,7 @@ use lib.Dec.{eqb, ltb}
 use lib.IntN.{ℤ, pos, negsuc, natAbs}
 use lib.ListN.{length, drop, getD}
 use Rattle.tle.specs.Legal.{inForm, legal}
-use Rattle.tle.specs.Read.{classOf, letter, meaningOf}
+use Rattle.tle.specs.Read.{classOf, letter, given, meaningOf}
 use Rattle.tle.specs.declared.Designator.{Designator}
 use Rattle.tle.specs.declared.Designator.the-variants as designator
 use Rattle.tle.specs.declared.Scaled.{Scaled}
@@ -129,7 +129,7 @@ fieldsOver f ns = cond (eqb (fieldsRefusal f (length ns)) 0) (numbersOf (f .0) +
 
 -- what the fields of numbers mean; a class that is none is in no form
 abbrev pub judgedBy : Given → Judged
-judgedBy (Fields r) = judged.Meaning (meaningOf (record { 0 = r }))
+judgedBy (Fields r) = judged.Meaning (meaningOf (given r))
 judgedBy NoClass = judged.Meaning (reading.Refused NoForm)
 judgedBy TooShort = judged.TooShort
 

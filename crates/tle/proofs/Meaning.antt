@@ -11,8 +11,8 @@ use Rattle.columns.specs.Layout.{agreed, layout1, layout2}
 use Rattle.columns.specs.Sum.{digitOf}
 use Rattle.tle.specs.Legal.{inclinationInRange, angleInRange, motionInRange, inForm}
 use Rattle.tle.specs.Refusals.{numberOf}
-use Rattle.tle.specs.Read.{unless, then, checksumOf, verdictOf, numberAt, pairOf, fieldsOf, formed, formOf, rangesOf, meaningOf, refusalIn, meant, ranged, readOf}
-use Rattle.tle.specs.Claims.{FormThenMeaning, FormRefusals, FormsYield, NeverSixteen, ReadRefusals}
+use Rattle.tle.specs.Read.{unless, then, checksumOf, verdictOf, numberAt, pairOf, fieldsOf, formed, formOf, rangesOf, given, meaningOf, refusalIn, meant, ranged, readOf}
+use Rattle.tle.specs.Claims.{FormThenMeaning, FormRefusals, FormsYield, SixteenExactly, NeverSixteen, ReadRefusals}
 use Rattle.tle.specs.declared.Record.{Record}
 use Rattle.tle.specs.declared.Fields.{Fields}
 use Rattle.tle.specs.declared.Line.{Line}
@@ -75,11 +75,11 @@ form-refusals line1 line2 why e = subst FewOf e (form-few line1 line2)
 -- ── the fields that a form yields ──
 
 abbrev Yields : Form → Type 0
-Yields (form.Fields f) = inForm (f .0) ≡ true
+Yields (form.Fields f) = (inForm (f .0) ≡ true) × (f ≡ given (f .0))
 Yields (form.Refused why) = Unit {0}
 
 yields : (v : Verdict) (r : Record) → (v ≡ verdict.Lawful → inForm r ≡ true) → Yields (formed v r)
-yields verdict.Lawful r h = h refl
+yields verdict.Lawful r h = (h refl, ap (λ (b : Bool). record { 0 = r; 1 = b }) (sym (h refl)))
 yields (verdict.Refused why) r h = tt
 
 form-yields : (line1 line2 : List ℕ) → Yields (formOf line1 line2)
@@ -91,9 +91,13 @@ forms-yield line1 line2 f e = subst Yields e (form-yields line1 line2)
 
 -- ── their meaning ──
 
-pub meant-ranged : (f : Form) → Yields f → meant f ≡ ranged f
+-- given fields that are in form are held to their ranges
+pub given-ranged : (r : Record) → inForm r ≡ true → meaningOf (given r) ≡ rangesOf r
 unfolding meaningOf
-meant-ranged (form.Fields f) h = rw h
+given-ranged r h = rw h
+
+pub meant-ranged : (f : Form) → Yields f → meant f ≡ ranged f
+meant-ranged (form.Fields f) h = ap meaningOf (h .1) ∙ given-ranged (f .0) (h .0)
 meant-ranged (form.Refused why) h = refl
 
 pub form-then-meaning : FormThenMeaning
@@ -132,9 +136,19 @@ pub read-refusals : ReadRefusals
 unfolding readOf
 read-refusals line1 line2 why e = subst Other e (ranged-other (formOf line1 line2) (form-few line1 line2))
 
+-- what is held to its ranges is not refused with 16
+not-sixteen : (r : Record) → rangesOf r ≡ reading.Refused NoForm → ⊥
+not-sixteen r e = let q : Other (reading.Refused NoForm) = subst Other e (ranges-other r) in omega arith
+
 pub never-sixteen : NeverSixteen
-unfolding meaningOf
 never-sixteen line1 line2 f e m =
     let h = forms-yield line1 line2 f e in
-    let q : Other (reading.Refused NoForm) = subst Other ((rw h at m)) (ranges-other (f .0)) in
-    omega arith
+    not-sixteen (f .0) (sym (given-ranged (f .0) (h .0)) ∙ ap meaningOf (sym (h .1)) ∙ m)
+
+sixteen-by : (b : Bool) (r : Record) → unless b (reading.Refused NoForm) (rangesOf r) ≡ reading.Refused NoForm → b ≡ false
+sixteen-by true r e = absurd (not-sixteen r e)
+sixteen-by false r e = refl
+
+pub sixteen-exactly : SixteenExactly
+unfolding meaningOf
+sixteen-exactly r = (sixteen-by (inForm r) r, λ h. rw h)

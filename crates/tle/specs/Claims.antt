@@ -2,6 +2,7 @@
 -- proofs/FirstPlaces.antt.
 use Prim.Native.Nat.{ℕ, _*_, _/_, _%_, _≤_}
 use mathlib.Core.Path.{_≡_}
+use mathlib.Core.Logic.{_↔_}
 use mathlib.Core.Bool.{true, false}
 use mathlib.Core.List.{List, _∷_, _++_}
 use lib.ListN.{length}
@@ -13,7 +14,7 @@ use Rattle.columns.specs.Layout.{layout1, layout2, opensNumber}
 use Rattle.columns.specs.Claims.{FirstFault}
 use Rattle.tle.specs.Legal.{inForm, legal}
 use Rattle.tle.specs.Refusals.{numberOf}
-use Rattle.tle.specs.Read.{verdictOf, formOf, meaningOf, meant, readOf}
+use Rattle.tle.specs.Read.{verdictOf, formOf, given, meaningOf, meant, readOf}
 use Rattle.tle.specs.declared.Record.{Record}
 use Rattle.tle.specs.declared.Line.{Line}
 use Rattle.tle.specs.declared.Line.the-variants.{One, Two}
@@ -50,11 +51,16 @@ FormThenMeaning = (line1 line2 : List ℕ) → meant (formOf line1 line2) ≡ re
 abbrev pub FormRefusals : Type 0
 FormRefusals = (line1 line2 : List ℕ) (why : Refusal) → formOf line1 line2 ≡ form.Refused why → numberOf why ≤ 5
 
--- the fields that it yields are in form; that it yields all such fields is `FormsExactly` of specs/Claims of crate `tle_writer`
+-- the fields that it yields are in form, and the same as if anyone had given them; that it yields all such fields is `FormsExactly` of
+-- specs/Claims of crate `tle_writer`
 abbrev pub FormsYield : Type 0
-FormsYield = (line1 line2 : List ℕ) (f : Fields) → formOf line1 line2 ≡ form.Fields f → inForm (f .0) ≡ true
+FormsYield = (line1 line2 : List ℕ) (f : Fields) → formOf line1 line2 ≡ form.Fields f → (inForm (f .0) ≡ true) × (f ≡ given (f .0))
 
--- so the second never gives 16 after it
+-- the second gives 16 exactly for fields that are not in form, whatever their ranges
+abbrev pub SixteenExactly : Type 0
+SixteenExactly = (r : Record) → (meaningOf (given r) ≡ reading.Refused NoForm) ↔ (inForm r ≡ false)
+
+-- so it never gives 16 after the first
 abbrev pub NeverSixteen : Type 0
 NeverSixteen = (line1 line2 : List ℕ) (f : Fields) → formOf line1 line2 ≡ form.Fields f → meaningOf f ≡ reading.Refused NoForm → ⊥
 

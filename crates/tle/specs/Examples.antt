@@ -13,7 +13,7 @@ use Rattle.tle.specs.Number.{valueOn, signed, minus}
 use Rattle.columns.specs.FirstPlace.{position, firstOf}
 use Rattle.tle.specs.Catalogue.{catalogueOf}
 use Rattle.tle.specs.Legal.{inRanges, designatorFits, scaledFits, inLayout, inPlaces, inForm, legal}
-use Rattle.tle.specs.Read.{verdictOf, numberAt, pairOf, classOf, designatorAt, yearOf, ndotAt, scaledAt, dayAt, motionAt, degreesAt, fieldsOf, formOf, rangesOf, meaningOf, readOf}
+use Rattle.tle.specs.Read.{verdictOf, numberAt, pairOf, classOf, designatorAt, yearOf, ndotAt, scaledAt, dayAt, motionAt, degreesAt, fieldsOf, formOf, rangesOf, given, meaningOf, readOf}
 use Rattle.tle.specs.declared.Class.the-variants.{Unclassified}
 use Rattle.tle.specs.declared.Designator.the-variants.{Piece}
 use Rattle.tle.specs.declared.Record.{Record}
@@ -92,10 +92,10 @@ pub well-formed : inForm (stamped 2001 36650000000) ≡ true
 unfolding inForm inLayout inPlaces designatorFits scaledFits
 well-formed = refl
 
-pub impossible : meaningOf (record { 0 = stamped 2001 36650000000 }) ≡ reading.Refused (Range Day)
+pub impossible : meaningOf (given (stamped 2001 36650000000)) ≡ reading.Refused (Range Day)
 unfolding meaningOf inForm inLayout inPlaces designatorFits scaledFits rangesOf dayInRange lastDay daysIn
 impossible = refl
 
-pub sixteen-first : meaningOf (record { 0 = varied 340000 2001 36650000000 }) ≡ reading.Refused NoForm
+pub sixteen-first : meaningOf (given (varied 340000 2001 36650000000)) ≡ reading.Refused NoForm
 unfolding meaningOf inForm inLayout inPlaces designatorFits scaledFits
 sixteen-first = refl

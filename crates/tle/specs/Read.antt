@@ -131,10 +131,15 @@ fieldsOf line1 line2 = record {
   revolution = field 63 5 line2;
 }
 
--- a verdict on two lines, with their fields
+-- a verdict on two lines, with their fields, which an accepted form yields
 abbrev pub formed : Verdict → Record → Form
-formed verdict.Lawful r = form.Fields (record { 0 = r })
+formed verdict.Lawful r = form.Fields (record { 0 = r; 1 = true })
 formed (verdict.Refused why) r = form.Refused why
+
+-- fields, whoever gives them: whether an accepted form yields them is judged (`FormsExactly` of specs/Claims of crate `tle_writer`). Those
+-- of a form are no other (`FormsYield` of specs/Claims)
+abbrev pub given : Record → Fields
+given r = record { 0 = r; 1 = inForm r }
 
 -- the form of two lines: refusals 1 to 5, or the fields
 unfoldable pub formOf : List ℕ → List ℕ → Form
@@ -152,7 +157,7 @@ rangesOf r =
 
 -- the meaning of fields: 16 where no accepted form yields them, then 6, or the record
 unfoldable pub meaningOf : Fields → Reading
-meaningOf f = unless (inForm (f .0)) (reading.Refused NoForm) (rangesOf (f .0))
+meaningOf f = unless (f .1) (reading.Refused NoForm) (rangesOf (f .0))
 
 -- the refusal of a form that is refused; of fields, which are not, it counts as 16
 abbrev pub refusalIn : Form → Refusal

@@ -2,7 +2,7 @@
 
 ghost use mathlib.Core.Path.{_≡_};
 ghost use Rattle.instant.specs.Calendar.{epochOf};
-ghost use Rattle.tle.specs.Read.{classOf, letter, refusalIn};
+ghost use Rattle.tle.specs.Read.{classOf, letter, given, refusalIn};
 ghost use Rattle.tle.specs.Refusals.{numberOf};
 use instant::Epoch;
 use instant::epoch_instant;
@@ -84,16 +84,16 @@ pub struct Record {
     pub revolution: u64,
 }
 
-// What an accepted form yields: the fields of a record, held to no range. What takes a record does not
-// take them; read_meaning, which judges them, makes the record.
-pub struct Fields(Record);
+// The fields of a record, held to no range, and whether an accepted form yields them. What takes a record
+// does not take them; read_meaning, which judges them, makes the record. Only read_form and `of` make them.
+pub struct Fields(Record, bool);
 
 impl Fields {
     // Fields to be judged, whoever gives them.
     pub fn of(r: Record) -> Fields
-        ensures { λ f. ⌜ f .0 ≡ r ⌝ }
+        ensures { λ f. ⌜ f ≡ given r ⌝ }
     {
-        Fields(r)
+        Fields(r, in_form(r))
     }
 
     // The fields to be shown as they are. No range was held to: writing and opening judge the whole

@@ -19,7 +19,6 @@ use super::Refusal;
 use super::Scaled;
 use super::Verdict;
 use super::limits::angle_in_range;
-use super::limits::in_form;
 use super::limits::inclination_in_range;
 use super::limits::motion_in_range;
 use columns::agreeing;
@@ -217,7 +216,7 @@ fn fields(line1: &[u8], line2: &[u8]) -> Record
 fn yielded(r: Record) -> Form
     ensures { λ f. ⌜ f ≡ formed verdict.Lawful r ⌝ }
 {
-    Form::Fields(Fields(r))
+    Form::Fields(Fields(r, true))
 }
 
 // The form of two lines, of any bytes and any lengths: refusals 1 to 5, or the fields.
@@ -262,7 +261,7 @@ pub fn read_meaning(fields: Fields) -> Reading
     ensures { λ r. ⌜ r ≡ meaningOf fields ⌝ }
 {
     let r = fields.0;
-    if !in_form(r) {
+    if !fields.1 {
         return Reading::Refused(Refusal::NoForm);
     }
     judge_ranges(r)

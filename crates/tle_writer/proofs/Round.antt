@@ -14,9 +14,8 @@ use Rattle.columns.specs.Layout.{layout1, layout2, agreed}
 use Rattle.tle.specs.Claims.{layoutOf}
 use Rattle.columns.specs.Sum.{digitOf, sum}
 use Rattle.tle.specs.Legal.{inLayout, inPlaces, inForm, inRanges, legal}
-use Rattle.tle.specs.Read.{unless, verdictOf, numberAt, pairOf, formOf, rangesOf, meaningOf, ranged, readOf}
+use Rattle.tle.specs.Read.{unless, verdictOf, numberAt, pairOf, formOf, rangesOf, given, meaningOf, ranged, readOf}
 use Rattle.tle.specs.declared.Record.{Record}
-use Rattle.tle.specs.declared.Fields.{Fields}
 use Rattle.tle.specs.declared.Line.{Line}
 use Rattle.tle.specs.declared.Line.the-variants.{One, Two}
 use Rattle.tle.specs.declared.Verdict.the-variants as verdict
@@ -113,12 +112,12 @@ unfolding pairOf
 pair-lawful r k = rw (judged One r k, judged Two r k, eq-eqb (numberAt (lineOf One r)) (numberAt (lineOf Two r)) (numbers r))
 
 -- their form yields the record's fields, in range or not
-pub form-back : (r : Record) → inForm r ≡ true → formOf (lineOf One r) (lineOf Two r) ≡ form.Fields (record { 0 = r })
+pub form-back : (r : Record) → inForm r ≡ true → formOf (lineOf One r) (lineOf Two r) ≡ form.Fields (given r)
 unfolding formOf
-form-back r h = rw (pair-lawful r (formed r h), fields-back r (formed r h))
+form-back r h = rw (pair-lawful r (formed r h), fields-back r (formed r h), h)
 
 pub forms-exactly : FormsExactly
-forms-exactly f = (λ h. (lineOf One (f .0), lineOf Two (f .0), form-back (f .0) h), λ l. forms-yield (l .0) (l .1) f (l .2))
+forms-exactly r = (λ h. (lineOf One r, lineOf Two r, form-back r h), λ l. forms-yield (l .0) (l .1) (given r) (l .2) .0)
 
 in-ranges : (r : Record) → inRanges r ≡ true → rangesOf r ≡ reading.Record r
 unfolding rangesOf
@@ -135,9 +134,9 @@ pub meaning-exactly : MeaningExactly
 unfolding meaningOf legal inForm
 meaning-exactly f r = (
   λ e.
-      let w = within (inForm (f .0)) NoForm (rangesOf (f .0)) r e in
-      let g = T.in-ranges (f .0) r (w .1) in
-      (g .1, rw (← g .1) (rw (both (inLayout (f .0)) (inPlaces (f .0)) (w .0) .0, g .0))),
+      let w = within (inForm f) NoForm (rangesOf f) r e in
+      let g = T.in-ranges f r (w .1) in
+      (g .1, rw (← g .1) (rw (both (inLayout f) (inPlaces f) (w .0) .0, g .0))),
   λ k. rw (k .0, legal-in-form r (k .1)) (in-ranges r (legal-ranges r (k .1))),
 )
 

@@ -10,9 +10,8 @@ use Rattle.columns.specs.Layout.{Lawful}
 use Rattle.tle.specs.Claims.{layoutOf}
 use Rattle.tle.specs.Catalogue.{catalogueOf}
 use Rattle.tle.specs.Legal.{inForm, legal}
-use Rattle.tle.specs.Read.{formOf, meaningOf, readOf}
+use Rattle.tle.specs.Read.{formOf, given, meaningOf, readOf}
 use Rattle.tle.specs.declared.Record.{Record}
-use Rattle.tle.specs.declared.Fields.{Fields}
 use Rattle.tle.specs.declared.Line.{Line}
 use Rattle.tle.specs.declared.Line.the-variants.{One, Two}
 use Rattle.tle.specs.declared.Form.the-variants as form
@@ -26,11 +25,11 @@ ReturnTrip = (r : Record) → legal r ≡ true → readOf (lineOf One r) (lineOf
 
 -- document 02, wish 9: the fields that an accepted form yields are exactly those in form
 abbrev pub FormsExactly : Type 0
-FormsExactly = (f : Fields) → (inForm (f .0) ≡ true) ↔ ((line1 : List ℕ) × (line2 : List ℕ) × (formOf line1 line2 ≡ form.Fields f))
+FormsExactly = (r : Record) → (inForm r ≡ true) ↔ ((line1 : List ℕ) × (line2 : List ℕ) × (formOf line1 line2 ≡ form.Fields (given r)))
 
 -- and judging the meaning of any fields gives exactly the legal records, each of its own fields
 abbrev pub MeaningExactly : Type 0
-MeaningExactly = (f : Fields) (r : Record) → (meaningOf f ≡ reading.Record r) ↔ ((f .0 ≡ r) × (legal r ≡ true))
+MeaningExactly = (f r : Record) → (meaningOf (given f) ≡ reading.Record r) ↔ ((f ≡ r) × (legal r ≡ true))
 
 -- either line of a legal record keeps the layout by which it is read
 abbrev pub WrittenAreLawful : Type 0

@@ -11,7 +11,7 @@ returns : tie.Need-returns
 unfolding judgedOf
 returns c =
     let g = c .before .before .before in
-    ap judged.Meaning (c .read-meaning .ensures ∙ ap (λ (r : Record). meaningOf (record { 0 = r })) (c .before .of .ensures))
+    ap judged.Meaning (c .read-meaning .ensures ∙ ap meaningOf (c .before .of .ensures))
     ∙ ap judgedBy (sym (g .given .given .1) ∙ g .before .before .record-of .ensures)
 
 returns-2 : tie.Need-returns-2
