@@ -1,9 +1,10 @@
 -- Zeros, and equal bytes, byte by byte.
 use Prim.Native.Nat.{ℕ, zero, suc, _+_, _<_, _≤_}
 use mathlib.Core.Path.{_≡_, refl, ap, sym, _∙_}
-use mathlib.Core.Bool.{Bool, true, false}
+use mathlib.Core.Bool.{Bool, true, false, _&&_}
 use mathlib.Core.List.{List, [], _∷_}
 use native.Mathlib.Numerals.{add-one}
+use native.Mathlib.Omega.{arith}
 use borrow.Author.Tests.{eq-eqb, ne-eqb, eqb-true}
 use lib.Dec.{eqb}
 use lib.ListN.{length, drop, getD, replicate, drop-of-length-le}
@@ -13,17 +14,22 @@ use Rattle.roster.specs.Roster.{allZero, same}
 
 -- ── zeros ──
 
-pub zero-more : (s : List ℕ) (i : ℕ) → i < length s → getD s i 0 ≡ 0 → allZero (drop i s) ≡ allZero (drop (i + 1) s)
+pub zero-more : (clear : Bool) (s : List ℕ) (i : ℕ) → i < length s
+    → clear && allZero (drop i s) ≡ (clear && eqb (getD s i 0) 0) && allZero (drop (i + 1) s)
 unfolding allZero
-zero-more s i h e = rw (add-one, drop-cons s i 0 h, e)
+zero-more true s i h = rw (add-one, drop-cons s i 0 h)
+zero-more false s i h = refl
 
-pub zero-stop : (s : List ℕ) (i : ℕ) → i < length s → (getD s i 0 ≡ 0 → ⊥) → false ≡ allZero (drop i s)
+pub zero-end : (clear : Bool) (s : List ℕ) (i : ℕ) → length s ≤ i → clear && allZero (drop i s) ≡ clear
 unfolding allZero
-zero-stop s i h n = rw (drop-cons s i 0 h, ne-eqb (getD s i 0) 0 n)
+zero-end true s i h = rw (drop-of-length-le s {i = i} h)
+zero-end false s i h = refl
 
-pub zero-end : (s : List ℕ) (i : ℕ) → length s ≤ i → true ≡ allZero (drop i s)
+-- the first byte tells
+pub zero-first : (s : List ℕ) → 0 < length s → (getD s 0 0 ≡ 0 → ⊥) → false ≡ allZero s
 unfolding allZero
-zero-end s i h = rw (drop-of-length-le s {i = i} h)
+zero-first [] h n = absurd (omega arith)
+zero-first (x ∷ s) h n = rw (ne-eqb x 0 n)
 
 pub zero-replicate : (s : List ℕ) → allZero s ≡ true → s ≡ replicate (length s) 0
 unfolding allZero

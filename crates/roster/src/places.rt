@@ -19,17 +19,29 @@ pub enum Place {
     Damaged,
 }
 
+// Without a branch on a byte, so that many are looked at at once.
+fn zeros(s: &[u8]) -> bool
+    ensures { λ r. ⌜ r ≡ allZero (now (s .entry)) ⌝ }
+{
+    let mut clear = true;
+    let mut i = 0;
+    while i < s.len() {
+        clear = clear & (s[i] == 0);
+        i += 1;
+    }
+    clear
+}
+
 pub fn all_zero(s: &[u8]) -> bool
     ensures { λ r. ⌜ r ≡ allZero (now (s .entry)) ⌝ }
 {
-    let mut i = 0;
-    while i < s.len() {
-        if s[i] != 0 {
+    // the first byte of a pair tells
+    if 0 < s.len() {
+        if s[0] != 0 {
             return false;
         }
-        i += 1;
     }
-    true
+    zeros(s)
 }
 
 // The pair written over the 138 bytes after the first at. Where there are none, or the record cannot be
