@@ -11,7 +11,7 @@ use Rattle.instant.specs.Calendar.{inCalendar}
 use Rattle.award.specs.declared.Offer.{Offer}
 use Rattle.award.specs.declared.Answer.{Answer}
 use Rattle.award.specs.declared.Answer.the-variants as answer
-use Rattle.award.specs.Plan.{first, among, offerCount, offerAt, named, mostCents, secondMicros, sound, unsound, missing, sameEntry, repeated, before, clash, clashWith, clashing, sumBelow, bidAt, totalOf, refusing, most, answerOf}
+use Rattle.award.specs.Plan.{first, among, offerCount, offerAt, entryAt, named, mostCents, secondMicros, sound, unsound, missing, names, repeated, before, clash, clashWith, clashing, sumBelow, bidAt, totalOf, refusing, most, answerOf}
 use Rattle.award.specs.Acceptable.{Sound, Before, Clash, Acceptable, Holds}
 use Rattle.award.specs.Claims.{Told, AcceptedExactly, ClashIsSymmetric, OneSlotAtOnce, SumsFit}
 use Rattle.award.proofs.First.{none, all, not-among}
@@ -137,7 +137,7 @@ only offers entries total w e =
       all-sound = λ k h. sound-only _ (not-false _ (none (λ k. unsound (offerAt offers k)) n (u .0) k h));
       all-exist = λ i h. leb-false n _ (none (λ i. missing n entries i) m (v .0) i h);
       none-twice = λ i j h l.
-          eqb-false _ _ (none (λ j. sameEntry entries i j) i (not-among (λ j. sameEntry entries i j) i (none (λ i. repeated entries i) m (r .0) i h)) j l);
+          eqb-false _ _ (none (λ j. names entries (entryAt entries i) j) i (not-among (λ j. names entries (entryAt entries i) j) i (none (λ i. repeated entries i) m (r .0) i h)) j l);
       none-clash = λ i j h l.
           no-clash _ _ _ (none (λ j. clashWith offers entries w i j) i (not-among (λ j. clashWith offers entries w i j) i (none (λ i. clashing offers entries w i) m (c .0) i h)) j l);
       right-total = eqb-true (totalOf offers entries) total (total-by (eqb (totalOf offers entries) total) (c .1));
@@ -150,7 +150,7 @@ always offers entries total w a =
     let m = length entries in
     let u = all (λ k. unsound (offerAt offers k)) n (λ k h. ap not (sound-always _ (a .all-sound k h))) in
     let v = all (λ i. missing n entries i) m (λ i h. lt-leb n _ (a .all-exist i h)) in
-    let r = all (λ i. repeated entries i) m (λ i h. empty (λ j. sameEntry entries i j) i (λ j l. ne-eqb _ _ (a .none-twice i j h l))) in
+    let r = all (λ i. repeated entries i) m (λ i h. empty (λ j. names entries (entryAt entries i) j) i (λ j l. ne-eqb _ _ (a .none-twice i j h l))) in
     let c = all (λ i. clashing offers entries w i) m (λ i h. empty (λ j. clashWith offers entries w i j) i (λ j l. clash-free _ _ _ (a .none-clash i j h l))) in
     sym (accepted offers entries total w (a .few-offers) (a .few-entries) (sym u) (omega arith) (sym v) (omega arith) (sym r) (omega arith) (sym c) (omega arith) refl
     (a .right-total))

@@ -70,11 +70,11 @@ abbrev pub missing : ℕ → List ℕ → ℕ → Bool
 missing n entries i = leb n (entryAt entries i)
 
 -- 29: "named by an earlier entry"
-abbrev pub sameEntry : List ℕ → ℕ → ℕ → Bool
-sameEntry entries i j = eqb (entryAt entries j) (entryAt entries i)
+abbrev pub names : List ℕ → ℕ → ℕ → Bool
+names entries x j = eqb (entryAt entries j) x
 
 unfoldable pub repeated : List ℕ → ℕ → Bool
-repeated entries i = among (λ j. sameEntry entries i j) i
+repeated entries i = among (λ j. names entries (entryAt entries i) j) i
 
 -- a slot ends, and the turnaround later, or after more, another starts; at turnaround 0 the two may be one instant
 unfoldable pub before : ℕ → ℕ → ℕ → Bool

@@ -4,7 +4,7 @@ ghost use mathlib.Core.Path.{_≡_};
 ghost use Prim.Native.Nat.{_+_, _*_, _/_, _≤_, _<_};
 ghost use lib.ListN.{length};
 ghost use Rattle.instant.specs.Calendar.{inCalendar};
-ghost use Rattle.award.specs.Plan.{first, offerAt, unsound, before, clash, missing, sameEntry, repeated, clashWith, clashing, sumBelow, bidAt, answerOf};
+ghost use Rattle.award.specs.Plan.{first, offerAt, unsound, before, clash, missing, names, repeated, clashWith, clashing, sumBelow, bidAt, answerOf};
 use instant::Dated;
 use instant::Instant;
 use instant::date_of;
@@ -100,14 +100,13 @@ fn first_missing(n: u64, entries: &[u64]) -> usize
     i
 }
 
-// The first of the entries before the i-th that names the same offer, or i.
-fn same_before(entries: &[u64], i: usize) -> usize
-    requires { ⌜ i < length (now entries) ⌝ }
-    ensures { λ r. ⌜ r ≡ first (λ j. sameEntry (now (entries .entry)) i j) i ⌝ }
+// The first of the first n entries that names offer x, or n.
+fn first_naming(entries: &[u64], x: u64, n: usize) -> usize
+    requires { ⌜ n ≤ length (now entries) ⌝ }
+    ensures { λ r. ⌜ r ≡ first (λ j. names (now (entries .entry)) x j) n ⌝ }
 {
-    let x = entries[i];
     let mut j = 0;
-    while j < i {
+    while j < n {
         if entries[j] == x {
             return j;
         }
@@ -121,7 +120,7 @@ fn first_repeated(entries: &[u64]) -> usize
 {
     let mut i = 0;
     while i < entries.len() {
-        if same_before(entries, i) < i {
+        if first_naming(entries, entries[i], i) < i {
             return i;
         }
         i += 1;
