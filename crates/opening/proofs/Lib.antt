@@ -3,6 +3,6 @@ mod Tests
 mod FloatLaws
 mod Guard
 mod AheadSame
-mod Inside
+pub mod Inside
 pub mod Made
 pub mod AllFinite

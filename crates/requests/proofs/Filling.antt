@@ -92,6 +92,46 @@ pub length-states : (rs : List Row) → length (statesOf rs) ≡ 6 * length rs
 length-states [] = refl
 length-states (r ∷ rs) = omega (arith, length-states rs)
 
+-- ── rows in their rooms ──
+
+-- the rows rs at the front of the rooms a₀, b₀ and c₀, which have places for n
+pub record Written (rs : List Row) (n : ℕ) (a₀ : List ℕ) (b₀ : List Float) (c₀ : List ℕ) (a : List ℕ) (b : List Float) (c : List ℕ) : Type 0 where
+  pub roomA : n ≤ length a₀
+  pub roomB : 6 * n ≤ length b₀
+  pub roomC : n ≤ length c₀
+  pub lenA : length a ≡ length a₀
+  pub lenB : length b ≡ length b₀
+  pub lenC : length c ≡ length c₀
+  pub refusals : a ≡ over (refusalsOf rs) a₀
+  pub states : b ≡ over (statesOf rs) b₀
+  pub rounds : c ≡ over (roundsOf rs) c₀
+
+-- one row more
+pub written-more : (rs : List Row) (r : Row) (n i : ℕ) (a₀ : List ℕ) (b₀ : List Float) (c₀ : List ℕ) (a : List ℕ) (b : List Float) (c : List ℕ) (b′ : List Float)
+    → Written rs n a₀ b₀ c₀ a b c → length rs ≡ i → i < n → b′ ≡ sets b (6 * i) (stateOf r)
+    → Written (rs ++ (r ∷ [])) n a₀ b₀ c₀ (set a i (r .refusal)) b′ (set c i (r .rounds))
+written-more rs r n i a₀ b₀ c₀ a b c b′ w long h hb = record {
+  roomA = w .roomA;
+  roomB = w .roomB;
+  roomC = w .roomC;
+  lenA = length-set a i (r .refusal) ∙ w .lenA;
+  lenB = ap length hb ∙ length-sets b (6 * i) (stateOf r) ∙ w .lenB;
+  lenC = length-set c i (r .rounds) ∙ w .lenC;
+  refusals =
+      ap (λ l. set l i (r .refusal)) (w .refusals)
+      ∙ over-set (refusalsOf rs) a₀ (r .refusal) i (length-refusals rs ∙ long) (omega (arith, w .roomA))
+      ∙ ap (λ l. over l a₀) (sym (refusals-snoc rs r));
+  states =
+      hb
+      ∙ ap (λ l. sets l (6 * i) (stateOf r)) (w .states)
+      ∙ over-sets (stateOf r) (statesOf rs) b₀ (6 * i) (omega (arith, length-states rs, long)) (omega (arith, w .roomB))
+      ∙ ap (λ l. over l b₀) (sym (states-snoc rs r));
+  rounds =
+      ap (λ l. set l i (r .rounds)) (w .rounds)
+      ∙ over-set (roundsOf rs) c₀ (r .rounds) i (length-rounds rs ∙ long) (omega (arith, w .roomC))
+      ∙ ap (λ l. over l c₀) (sym (rounds-snoc rs r));
+}
+
 -- ── a time takes at most 7,304 strides ──
 
 whole-by : (b : Bool) (x : ℕ) → x ≤ 315532800000000 → cond b (x / 43200000000) 0 ≤ 7304
@@ -175,31 +215,34 @@ filling-more ts a₀ b₀ c₀ k p₀ a b c p n i d u b′ r f h hr hu hb =
     let rows : rowsFrom s₀ (take (i + 1) ts) ≡ rowsFrom s₀ xs ++ (r .row ∷ []) =
     ap (rowsFrom s₀) one ∙ rows-snoc s₀ xs t ∙ ap (λ z. rowsFrom s₀ xs ++ (z .row ∷ [])) (sym same) in
     let long : length (rowsFrom s₀ xs) ≡ i = length-rows s₀ xs ∙ length-take-le i ts (f .upto) in
+    let w = written-more (rowsFrom s₀ xs) (r .row) (length ts) i a₀ b₀ c₀ a b c b′
+    (record {
+      roomA = f .roomA;
+      roomB = f .roomB;
+      roomC = f .roomC;
+      lenA = f .lenA;
+      lenB = f .lenB;
+      lenC = f .lenC;
+      refusals = f .refusals;
+      states = f .states;
+      rounds = f .rounds;
+    })
+    long h hb in
     record {
       upto = omega arith;
       most = f .most;
       roomA = f .roomA;
       roomB = f .roomB;
       roomC = f .roomC;
-      lenA = length-set a i (r .row .refusal) ∙ f .lenA;
-      lenB = ap length hb ∙ length-sets b (6 * i) (stateOf (r .row)) ∙ f .lenB;
-      lenC = length-set c i (r .row .rounds) ∙ f .lenC;
+      lenA = w .lenA;
+      lenB = w .lenB;
+      lenC = w .lenC;
       held = ap (λ z. z .satellite) same ∙ sym (ap (satelliteFrom s₀) one ∙ satellite-snoc s₀ xs t);
       strides = ap (λ z. n + z .strides .0) same ∙ ap (λ z. z + answered (satelliteFrom s₀ xs) t .strides .0) (f .strides) ∙ sym (ap (stridesFrom s₀) one ∙ strides-snoc s₀ xs t);
       few = omega (arith, f .few, few-of r k p u hr);
-      refusals =
-          ap (λ l. set l i (r .row .refusal)) (f .refusals)
-          ∙ over-set (refusalsOf (rowsFrom s₀ xs)) a₀ (r .row .refusal) i (length-refusals (rowsFrom s₀ xs) ∙ long) (omega (arith, f .roomA))
-          ∙ ap (λ l. over l a₀) (sym (ap refusalsOf rows ∙ refusals-snoc (rowsFrom s₀ xs) (r .row)));
-      states =
-          hb
-          ∙ ap (λ l. sets l (6 * i) (stateOf (r .row))) (f .states)
-          ∙ over-sets (stateOf (r .row)) (statesOf (rowsFrom s₀ xs)) b₀ (6 * i) (omega (arith, length-states (rowsFrom s₀ xs), long)) (omega (arith, f .roomB))
-          ∙ ap (λ l. over l b₀) (sym (ap statesOf rows ∙ states-snoc (rowsFrom s₀ xs) (r .row)));
-      rounds =
-          ap (λ l. set l i (r .row .rounds)) (f .rounds)
-          ∙ over-set (roundsOf (rowsFrom s₀ xs)) c₀ (r .row .rounds) i (length-rounds (rowsFrom s₀ xs) ∙ long) (omega (arith, f .roomC))
-          ∙ ap (λ l. over l c₀) (sym (ap roundsOf rows ∙ rounds-snoc (rowsFrom s₀ xs) (r .row)));
+      refusals = w .refusals ∙ ap (λ l. over (refusalsOf l) a₀) (sym rows);
+      states = w .states ∙ ap (λ l. over (statesOf l) b₀) (sym rows);
+      rounds = w .rounds ∙ ap (λ l. over (roundsOf l) c₀) (sym rows);
     }
 
 -- the same for a row that is put into the rooms
@@ -236,7 +279,7 @@ filling-two ts a₀ b₀ c₀ k p₀ a b c p n i d t u a″ b″ c″ x f h hx h
     subst (λ (z : ℕ). Filling ts a₀ b₀ c₀ k p₀ a″ b″ c″ (x .second .place) (n + x .first .strides .0 + x .second .strides .0) z) j two
 
 -- at the end all are
-all-times : (ts : List ℤ) (i : ℕ) → i ≤ length ts → length ts ≤ i → take i ts ≡ ts
+pub all-times : (ts : List ℤ) (i : ℕ) → i ≤ length ts → length ts ≤ i → take i ts ≡ ts
 all-times ts i h k = let e : i ≡ length ts = omega arith in ap (λ j. take j ts) e ∙ take-length ts
 
 pub filling-done : {ts : List ℤ} {a₀ : List ℕ} {b₀ : List Float} {c₀ : List ℕ} {k : Model} {p₀ : Place} {a : List ℕ} {b : List Float} {c : List ℕ} {p : Place} {n i : ℕ}

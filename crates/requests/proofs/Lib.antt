@@ -1,4 +1,4 @@
 -- The laws that the proofs of the functions share.
 mod Answers
 pub mod Filling
-mod Listing
+pub mod Listing

@@ -234,7 +234,7 @@ fn fill(
 
 // The number that a list is refused with, from the lengths of the times and the rooms; 0 where it is
 // not.
-fn list_refusal(n: usize, a: usize, b: usize, c: usize) -> u8
+pub fn list_refusal(n: usize, a: usize, b: usize, c: usize) -> u8
     ensures { λ r. ⌜ r ≡ L.listRefusal n a b c ⌝ }
 {
     if 1024 < n {

@@ -91,7 +91,8 @@ pub fn refused_row(number: u8) -> Row
     }
 }
 
-fn row_of(answer: Answer) -> Row
+// What 002's sgp4 answers, as a row.
+pub fn row_of(answer: Answer) -> Row
     ensures { λ r. ⌜ r ≡ R.rowOf answer ⌝ }
 {
     match answer {

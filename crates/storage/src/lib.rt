@@ -5,6 +5,7 @@ ghost use mathlib.Core.Path.{_≡_};
 ghost use Prim.Native.Nat.{_≤_};
 ghost use lib.ListN.{length};
 ghost use Rattle.storage.specs.Storage as S;
+ghost use Rattle.storage.specs.Near as N;
 use instant::Instant;
 use instant::Strides;
 use opening::opening::Satellite;
@@ -46,8 +47,16 @@ impl Loading {
     }
 }
 
+// What loading a satellite near the Earth gives, from memory for its numbers alone: DeepSpace where the
+// memory holds another satellite, document 01's refusal 17 where it holds none.
+pub enum NearLoading {
+    Loaded(NearEarth),
+    DeepSpace,
+    RoomTooShort,
+}
+
 fn elements_at(numbers: &[f64]) -> Elements
-    requires { ⌜ 83 ≤ length (now numbers) ⌝ }
+    requires { ⌜ 36 ≤ length (now numbers) ⌝ }
     ensures { λ r. ⌜ r ≡ S.elementsAt (now (numbers .entry)) ⌝ }
 {
     Elements {
@@ -62,7 +71,7 @@ fn elements_at(numbers: &[f64]) -> Elements
 }
 
 fn drag_at(numbers: &[f64]) -> Drag
-    requires { ⌜ 83 ≤ length (now numbers) ⌝ }
+    requires { ⌜ 36 ≤ length (now numbers) ⌝ }
     ensures { λ r. ⌜ r ≡ S.dragAt (now (numbers .entry)) ⌝ }
 {
     Drag {
@@ -79,7 +88,7 @@ fn drag_at(numbers: &[f64]) -> Drag
 }
 
 fn higher_at(numbers: &[f64]) -> Higher
-    requires { ⌜ 83 ≤ length (now numbers) ⌝ }
+    requires { ⌜ 36 ≤ length (now numbers) ⌝ }
     ensures { λ r. ⌜ r ≡ S.higherAt (now (numbers .entry)) ⌝ }
 {
     Higher {
@@ -93,7 +102,7 @@ fn higher_at(numbers: &[f64]) -> Higher
 }
 
 fn rates_at(numbers: &[f64]) -> Rates
-    requires { ⌜ 83 ≤ length (now numbers) ⌝ }
+    requires { ⌜ 36 ≤ length (now numbers) ⌝ }
     ensures { λ r. ⌜ r ≡ S.ratesAt (now (numbers .entry)) ⌝ }
 {
     Rates {
@@ -105,7 +114,7 @@ fn rates_at(numbers: &[f64]) -> Rates
 }
 
 fn terms_at(numbers: &[f64]) -> Terms
-    requires { ⌜ 83 ≤ length (now numbers) ⌝ }
+    requires { ⌜ 36 ≤ length (now numbers) ⌝ }
     ensures { λ r. ⌜ r ≡ S.termsAt (now (numbers .entry)) ⌝ }
 {
     Terms {
@@ -118,7 +127,7 @@ fn terms_at(numbers: &[f64]) -> Terms
 }
 
 fn kept_at(numbers: &[f64]) -> Kept
-    requires { ⌜ 83 ≤ length (now numbers) ⌝ }
+    requires { ⌜ 36 ≤ length (now numbers) ⌝ }
     ensures { λ r. ⌜ r ≡ S.keptAt (now (numbers .entry)) ⌝ }
 {
     Kept {
@@ -129,7 +138,7 @@ fn kept_at(numbers: &[f64]) -> Kept
 }
 
 fn near_earth_at(numbers: &[f64], isimp: bool) -> NearEarth
-    requires { ⌜ 83 ≤ length (now numbers) ⌝ }
+    requires { ⌜ 36 ≤ length (now numbers) ⌝ }
     ensures { λ r. ⌜ r ≡ S.nearEarthAt (now (numbers .entry)) isimp ⌝ }
 {
     let elements = elements_at(numbers);
@@ -333,4 +342,20 @@ pub fn load(numbers: &[f64], marks: &[u32]) -> Loading
         return Loading::RoomTooShort;
     }
     Loading::Loaded(held(numbers, marks))
+}
+
+// The satellite near the Earth that lies in the memory, whoever wrote it.
+pub fn load_near(numbers: &[f64], marks: &[u32]) -> NearLoading
+    ensures { λ r. ⌜ r ≡ N.nearLoadingOf (now (numbers .entry)) (now (marks .entry)) ⌝ }
+{
+    if numbers.len() < 36 {
+        return NearLoading::RoomTooShort;
+    }
+    if marks.len() < 6 {
+        return NearLoading::RoomTooShort;
+    }
+    if marks[3] != 0 {
+        return NearLoading::DeepSpace;
+    }
+    NearLoading::Loaded(near_earth_at(numbers, marks[2] != 0))
 }

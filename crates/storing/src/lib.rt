@@ -1,12 +1,14 @@
 // An opened satellite written into memory that a caller lends, by the layout of crate storage; what was
 // stored comes back the same (proofs/Kept).
 ghost use mathlib.Core.Path.{_≡_};
-ghost use mathlib.Core.List.{_++_};
+ghost use mathlib.Core.List.{_∷_, _++_};
 ghost use Prim.Native.Nat.{_+_, _/_, _%_, _≤_};
 ghost use lib.ListN.{length};
 ghost use lib.Seq.{sets};
 ghost use Rattle.storage.specs.Storage as S;
+ghost use Rattle.storage.specs.Near as N;
 use instant::Instant;
+use instant::Strides;
 use opening::opening::Satellite;
 use resonance::place::Place;
 use resonance::place::Side;
@@ -174,7 +176,7 @@ fn put(numbers: &mut [f64], at: usize, values: &[f64])
 }
 
 fn put_near(numbers: &mut [f64], n: NearEarth)
-    requires { ⌜ 83 ≤ length (now numbers) ⌝ }
+    requires { ⌜ 36 ≤ length (now numbers) ⌝ }
     ensures { λ _. ⌜ now (numbers .exit) ≡ sets (now (numbers .entry)) 2 (S.nearNumbers n) ⌝ }
 {
     let el = n.elements;
@@ -242,17 +244,13 @@ fn put_method(numbers: &mut [f64], method: Method)
 }
 
 // The marks 2 to 5.
-fn put_marks(marks: &mut [u32], model: Model)
+fn put_marks(marks: &mut [u32], isimp: bool, kind: u32, epoch: Instant)
     requires { ⌜ 6 ≤ length (now marks) ⌝ }
-    ensures { λ _. ⌜ now (marks .exit) ≡ sets (now (marks .entry)) 2 (S.modelMarks model) ⌝ }
+    ensures { λ _. ⌜ now (marks .exit) ≡ sets (now (marks .entry)) 2 (S.isimpMark isimp ∷ kind ∷ S.epochMarks epoch) ⌝ }
 {
-    let near = model.near;
-    let method = model.method;
-    let epoch = model.epoch;
-    let kind = method_mark(method);
     let low = low_half(epoch);
     let high = high_half(epoch);
-    marks[2] = near.isimp as u32;
+    marks[2] = isimp as u32;
     marks[3] = kind;
     marks[4] = low;
     marks[5] = high;
@@ -266,13 +264,15 @@ fn put_model(numbers: &mut [f64], marks: &mut [u32], model: Model)
 {
     let near = model.near;
     let method = model.method;
+    let epoch = model.epoch;
+    let kind = method_mark(method);
     put_near(numbers, near);
     put_method(numbers, method);
-    put_marks(marks, model);
+    put_marks(marks, near.isimp, kind, epoch);
 }
 
 fn put_place(numbers: &mut [f64], marks: &mut [u32], place: Place)
-    requires { ⌜ 83 ≤ length (now numbers) ⌝ }
+    requires { ⌜ 36 ≤ length (now numbers) ⌝ }
     requires { ⌜ 6 ≤ length (now marks) ⌝ }
     ensures { λ _. ⌜ now (numbers .exit) ≡ sets (now (numbers .entry)) 0 (S.placeNumbers place) ⌝ }
     ensures { λ _. ⌜ now (marks .exit) ≡ sets (now (marks .entry)) 0 (S.placeMarks place) ⌝ }
@@ -317,5 +317,30 @@ pub fn store_place(place: Place, numbers: &mut [f64], marks: &mut [u32]) -> u8
         return 17;
     }
     put_place(numbers, marks, place);
+    0
+}
+
+// A satellite near the Earth, newly opened, into memory for its numbers alone: 0, or refusal 17 with
+// nothing written.
+pub fn store_near(near: NearEarth, epoch: Instant, numbers: &mut [f64], marks: &mut [u32]) -> u8
+    ensures { λ r. ⌜ r ≡ N.nearRefusal (length (now (numbers .entry))) (length (now (marks .entry))) ⌝ }
+    ensures { λ _. ⌜ now (numbers .exit) ≡ N.nearStoredNumbers (N.nearSatellite near epoch) (now (numbers .entry)) (now (marks .entry)) ⌝ }
+    ensures { λ _. ⌜ now (marks .exit) ≡ N.nearStoredMarks (N.nearSatellite near epoch) (now (numbers .entry)) (now (marks .entry)) ⌝ }
+{
+    if numbers.len() < 36 {
+        return 17;
+    }
+    if marks.len() < 6 {
+        return 17;
+    }
+    let place = Place {
+        side: Side::Forward,
+        strides: Strides(0),
+        xli: 0.0,
+        xni: 0.0,
+    };
+    put_place(numbers, marks, place);
+    put_near(numbers, near);
+    put_marks(marks, near.isimp, 0, epoch);
     0
 }

@@ -1,0 +1,4 @@
+-- The laws that the proofs of the functions share.
+pub mod Holds
+mod Settled
+mod Posts

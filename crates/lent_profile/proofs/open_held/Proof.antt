@@ -1,0 +1,58 @@
+use denote.Ref.{now}
+use lib.ListN.{length}
+use mathlib.Core.Path.{sym, ap, _∙_}
+use Rattle.tle.proofs.Meaning.{passed-up, gone-on}
+use borrow.Author.Needs.{needs}
+use Rattle.answers.specs.Refusals.{refusalAnswer}
+use Rattle.answers.proofs.Columns.{read-in-bits}
+use Rattle.lent_profile.specs.Opening.{openAnswer, openNumbers, openMarks}
+use Rattle.lent_profile.proofs.open_held.Statement.{statement}
+use Rattle.lent_profile.proofs.open_held.Tie as tie
+
+returns : tie.Need-returns
+unfolding openAnswer openNumbers openMarks
+returns c =
+    let u = c .before in
+    let t = u .before in
+    let o = t .before .before in
+    let a = o .before .before .before .before .before .args in
+    let e = sym (passed-up _ _ (o .read-form .ensures) (t .enum-told .given .1) (u .refusal .ensures)) in (
+      c .refusal-answer .ensures ∙ ap refusalAnswer (read-in-bits _ _ _ e) ∙ sym (ap (λ z. openAnswer z (length (now (a .numbers))) (length (now (a .marks)))) e),
+      (sym (ap (λ z. openNumbers z (now (a .numbers)) (now (a .marks))) e), sym (ap (λ z. openMarks z (now (a .numbers)) (now (a .marks))) e)),
+    )
+
+returns-2 : tie.Need-returns-2
+unfolding openAnswer openNumbers openMarks
+returns-2 c =
+    let t = c .before .before .before .before in
+    let w = t .before .before .before .before in
+    let k = w .before .before in
+    let f = k .before .before in
+    let o = f .before .before in
+    let a = o .before .before .before .before .before .args in
+    let e = sym (gone-on _ _ (o .read-form .ensures) (f .form .given .1) (k .read-meaning .ensures)) ∙ w .r .given .1 in
+    let g = t .open-record .ensures in (
+      g .0 ∙ sym (ap (λ z. openAnswer z (length (now (a .numbers))) (length (now (a .marks)))) e),
+      (g .1 .0 ∙ sym (ap (λ z. openNumbers z (now (a .numbers)) (now (a .marks))) e), g .1 .1 ∙ sym (ap (λ z. openMarks z (now (a .numbers)) (now (a .marks))) e)),
+    )
+
+returns-3 : tie.Need-returns-3
+unfolding openAnswer openNumbers openMarks
+returns-3 c =
+    let w = c .before .before in
+    let k = w .before .before in
+    let f = k .before .before in
+    let o = f .before .before in
+    let a = o .before .before .before .before .before .args in
+    let e = sym (gone-on _ _ (o .read-form .ensures) (f .form .given .1) (k .read-meaning .ensures)) ∙ w .why .given .1 in (
+      c .refusal-answer2 .ensures ∙ ap refusalAnswer (read-in-bits _ _ _ e) ∙ sym (ap (λ z. openAnswer z (length (now (a .numbers))) (length (now (a .marks)))) e),
+      (sym (ap (λ z. openNumbers z (now (a .numbers)) (now (a .marks))) e), sym (ap (λ z. openMarks z (now (a .numbers)) (now (a .marks))) e)),
+    )
+
+pub open-held-spec : {M : Type 1} → statement M
+open-held-spec =
+    tie.close
+    (tie.spec
+    (λ c κs. search needs) (λ c. search needs) (λ c. search needs) (λ c κs. search needs) (λ c κs. search needs) returns
+    (λ c κs. search needs) (λ c. search needs) (λ c κs. search needs)
+    (λ c. search needs) (λ c κs. search needs) (λ c. search needs) (λ c. search needs) returns-2 returns-3)
