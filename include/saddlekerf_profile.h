@@ -3,8 +3,8 @@
  * 30 days after it, in little flash. Proved bit for bit: what it answers has the same bits as the full
  * library's answer (saddlekerf.h).
  *
- * Link with libsaddlekerf_profile.a (`rt staticlib saddlekerf_profile` writes it; x86-64 Linux). Of the
- * C library it calls memcpy and memset alone. The header needs no hosted C library. Both archives may be
+ * Link with libsaddlekerf_profile.a (`rt staticlib saddlekerf_profile` writes it; x86-64 Linux). It needs
+ * nothing from outside, not even memcpy, and the header no hosted C library. Both archives may be
  * linked into one program.
  *
  * USE
@@ -35,8 +35,7 @@
  * FLOATING-POINT ENVIRONMENT, STACK
  *
  *   Rounding to nearest, ties to even, with subnormal numbers and without traps, as a program starts.
- *   No function needs more than SADDLEKERF_PROFILE_STACK bytes of stack, beside what memcpy and memset
- *   take. Every call returns.
+ *   No function needs more than SADDLEKERF_PROFILE_STACK bytes of stack. Every call returns.
  *
  * ANSWERS
  *
@@ -66,7 +65,7 @@ extern "C" {
 #define SADDLEKERF_PROFILE_STATE 6
 
 /* Bytes of stack: no function needs more. */
-#define SADDLEKERF_PROFILE_STACK 4096
+#define SADDLEKERF_PROFILE_STACK 2048
 
 /* The most times of one list. */
 #define SADDLEKERF_PROFILE_LIST_LIMIT 1024

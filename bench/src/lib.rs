@@ -15,6 +15,7 @@
 //! - [`moves`]: instants moved twice, and dated.
 //! - [`sgp4`]: 002's model.
 //! - [`request`]: opening, single requests and lists, the saved position.
+//! - [`profile`]: near-Earth satellites from 0 to 30 days.
 //! - [`windows`]: the Earth-fixed frame, and when a satellite is above a station.
 //! - [`published`]: the pairs of 002's test set.
 //! - [`random`], [`generate`]: seeded random numbers, pairs and requests.
@@ -28,6 +29,7 @@ pub mod generate;
 pub mod instant;
 pub mod library;
 pub mod moves;
+pub mod profile;
 pub mod proved;
 pub mod published;
 pub mod random;

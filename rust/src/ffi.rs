@@ -507,3 +507,118 @@ mod tests {
         assert_eq!(unsafe { ABI() }, 3);
     }
 }
+
+/// The functions of include/saddlekerf_profile.h.
+#[cfg(feature = "profile")]
+pub mod profile {
+    use super::STATE;
+    use crate::{Microseconds, State};
+
+    /// Elements of a satellite's memory.
+    pub const NUMBERS: usize = 36;
+    pub const MARKS: usize = 6;
+
+    mod c {
+        extern "C" {
+            pub fn saddlekerf_profile_abi_1() -> u64;
+
+            pub fn saddlekerf_profile_open(
+                line1: *const u8,
+                line1_length: usize,
+                line2: *const u8,
+                line2_length: usize,
+                numbers: *mut f64,
+                numbers_length: usize,
+                marks: *mut u32,
+                marks_length: usize,
+            ) -> u64;
+
+            pub fn saddlekerf_profile_request(
+                numbers: *mut f64,
+                numbers_length: usize,
+                marks: *mut u32,
+                marks_length: usize,
+                time: i64,
+                state: *mut f64,
+                state_length: usize,
+            ) -> u64;
+
+            pub fn saddlekerf_profile_request_list(
+                numbers: *mut f64,
+                numbers_length: usize,
+                marks: *mut u32,
+                marks_length: usize,
+                times: *const i64,
+                times_length: usize,
+                refusals: *mut u8,
+                refusals_length: usize,
+                states: *mut f64,
+                states_length: usize,
+                rounds: *mut u8,
+                rounds_length: usize,
+            ) -> u64;
+        }
+    }
+
+    /// As the full library's: an archive of another boundary does not link.
+    #[used]
+    static ABI: unsafe extern "C" fn() -> u64 = c::saddlekerf_profile_abi_1;
+
+    pub fn open(line1: &[u8], line2: &[u8], numbers: &mut [f64], marks: &mut [u32]) -> u64 {
+        // SAFETY: all four are slices, the last two mutable, so that they overlap nothing.
+        unsafe {
+            c::saddlekerf_profile_open(
+                line1.as_ptr(),
+                line1.len(),
+                line2.as_ptr(),
+                line2.len(),
+                numbers.as_mut_ptr(),
+                numbers.len(),
+                marks.as_mut_ptr(),
+                marks.len(),
+            )
+        }
+    }
+
+    pub fn request(numbers: &mut [f64], marks: &mut [u32], time: Microseconds, state: &mut [f64]) -> u64 {
+        // SAFETY: three mutable slices.
+        unsafe {
+            c::saddlekerf_profile_request(
+                numbers.as_mut_ptr(),
+                numbers.len(),
+                marks.as_mut_ptr(),
+                marks.len(),
+                time.0,
+                state.as_mut_ptr(),
+                state.len(),
+            )
+        }
+    }
+
+    pub fn request_list(
+        numbers: &mut [f64],
+        marks: &mut [u32],
+        times: &[Microseconds],
+        refusals: &mut [u8],
+        states: &mut [State],
+        rounds: &mut [u8],
+    ) -> u64 {
+        // SAFETY: as the full library's function of this name.
+        unsafe {
+            c::saddlekerf_profile_request_list(
+                numbers.as_mut_ptr(),
+                numbers.len(),
+                marks.as_mut_ptr(),
+                marks.len(),
+                times.as_ptr().cast(),
+                times.len(),
+                refusals.as_mut_ptr(),
+                refusals.len(),
+                states.as_mut_ptr().cast(),
+                STATE * states.len(),
+                rounds.as_mut_ptr(),
+                rounds.len(),
+            )
+        }
+    }
+}

@@ -70,6 +70,8 @@
 //!
 //! The form of a pair and what its fields mean are judged apart, too: [`Fields`], [`form`], [`meaning`].
 //!
+//! The dish controller's profile, from an archive of its own, is the module `profile` (feature `profile`).
+//!
 //! An award plan that somebody else proposes is checked, and accepted only if it breaks no rule ([`Plan`]).
 //!
 //! Lines are any bytes at all, without a line end. They get an answer or exactly one [`Refusal`],
@@ -99,6 +101,8 @@
 mod award;
 #[allow(unsafe_code)]
 mod ffi;
+#[cfg(feature = "profile")]
+pub mod profile;
 mod record;
 mod refusal;
 mod report;

@@ -89,10 +89,14 @@ pub enum Refusal {
     Station,
     /// 26: a step of 0 or more than 86,400 s.
     Step,
+    /// 32, of the profile: a period of 225 minutes or more, or a deep-space or resonant satellite.
+    DeepSpace,
+    /// 33, of the profile: a negative time, or one beyond 30 days.
+    ProfileTime,
 }
 
 impl Refusal {
-    /// The refusal's number, 1 to 26.
+    /// The refusal's number, 1 to 26, or 32 and 33 of the profile.
     pub const fn number(self) -> u8 {
         match self {
             Refusal::Length { .. } => 1,
@@ -121,6 +125,8 @@ impl Refusal {
             Refusal::Odd => 24,
             Refusal::Station => 25,
             Refusal::Step => 26,
+            Refusal::DeepSpace => 32,
+            Refusal::ProfileTime => 33,
         }
     }
 }
@@ -165,13 +171,15 @@ impl fmt::Display for Refusal {
             Refusal::Odd => f.write_str("a text with an odd number of lines"),
             Refusal::Station => f.write_str("a station that is zero or not finite"),
             Refusal::Step => f.write_str("a step of 0 or more than 86,400 s"),
+            Refusal::DeepSpace => f.write_str("deep space"),
+            Refusal::ProfileTime => f.write_str("a negative time, or one beyond 30 days"),
         }
     }
 }
 
 impl std::error::Error for Refusal {}
 
-/// An answer of the library, as include/saddlekerf.h lays it out. What it does not name for a
+/// An answer of a library, as include/saddlekerf.h lays it out. What it does not name for a
 /// function and a refusal is 0; another answer comes only from an archive of another header.
 #[derive(Clone, Copy)]
 pub(crate) struct Answer(pub u64);
@@ -306,6 +314,8 @@ impl Answer {
             24 => Refusal::Odd,
             25 => Refusal::Station,
             26 => Refusal::Step,
+            32 => Refusal::DeepSpace,
+            33 => Refusal::ProfileTime,
             _ => return None,
         })
     }
@@ -330,10 +340,10 @@ impl Refusal {
         self.number() as u32 | detail << 8 | place << 16
     }
 
-    /// The refusal of a row: 9 to 15, which come back with nothing.
+    /// The refusal of a row: 9 to 15, or the profile's 33, which come back with nothing.
     pub(crate) fn of_row(number: u8) -> Option<Refusal> {
         match number {
-            9..=15 => Answer(number as u64).decoded(),
+            9..=15 | 33 => Answer(number as u64).decoded(),
             _ => None,
         }
     }
@@ -397,6 +407,8 @@ mod tests {
             (24, 24, Refusal::Odd, "a text with an odd number of lines"),
             (25, 25, Refusal::Station, "a station that is zero or not finite"),
             (26, 26, Refusal::Step, "a step of 0 or more than 86,400 s"),
+            (32, 32, Refusal::DeepSpace, "deep space"),
+            (33, 33, Refusal::ProfileTime, "a negative time, or one beyond 30 days"),
         ];
         for (answer, number, refusal, text) in table {
             assert_eq!(Answer(answer).plain(), Err(refusal));
@@ -404,7 +416,7 @@ mod tests {
             assert_eq!(Answer(answer | 7 << 32).asked(), (Err(refusal), 7));
             assert_eq!(refusal.number(), number);
             assert_eq!(refusal.to_string(), format!("refusal {number}: {text}"));
-            let of_row = (9..=15).contains(&number).then_some(refusal);
+            let of_row = ((9..=15).contains(&number) || number == 33).then_some(refusal);
             assert_eq!(Refusal::of_row(number), of_row);
         }
     }

@@ -52,7 +52,17 @@ pub struct Rows<'a> {
     strides: Strides,
 }
 
-impl Rows<'_> {
+impl<'a> Rows<'a> {
+    /// The rows at the front of the rooms.
+    pub(crate) fn of(rooms: &'a Rooms<'_>, count: usize, strides: Strides) -> Rows<'a> {
+        Rows {
+            refusals: &rooms.refusals[..count],
+            states: &rooms.states[..count],
+            rounds: &rooms.rounds[..count],
+            strides,
+        }
+    }
+
     /// One for each time of the list.
     pub fn len(&self) -> usize {
         self.refusals.len()
@@ -185,8 +195,7 @@ impl Satellite {
         let answer =
             Packed(ffi::request_list(&mut self.numbers, &mut self.marks, times, refusals, states, rounds));
         let strides = Strides(answer.counted()?);
-        let count = times.len();
-        Ok(Rows { refusals: &refusals[..count], states: &states[..count], rounds: &rounds[..count], strides })
+        Ok(Rows::of(rooms, times.len(), strides))
     }
 
     /// The instant of the epoch, which the satellite keeps.
