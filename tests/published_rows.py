@@ -92,4 +92,5 @@ def main():
     write(target / "crates/replay", *replayed(found))
 
 
-main()
+if __name__ == "__main__":
+    main()

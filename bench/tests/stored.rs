@@ -56,19 +56,28 @@ fn written(script: &str, program: &str) {
     fs::remove_dir_all(folder).unwrap();
 }
 
-/// Inputs and outputs of both programs, made from the published rows, which vectors.rs holds to the port.
-#[test]
-fn published_rows_and_replay() {
-    let folder = std::env::temp_dir().join(format!("published-rows-{}", std::process::id()));
+/// Inputs and outputs made from the published rows, which vectors.rs holds to the port.
+fn made_from_rows(script: &str, crates: &[&str]) {
+    let folder = std::env::temp_dir().join(format!("{script}-{}", std::process::id()));
     fs::create_dir_all(&folder).unwrap();
-    output(Command::new("python3").arg(root().join("tests/published_rows.py")).arg(&folder));
-    for crate_folder in ["crates/test_rows", "crates/replay"] {
+    output(Command::new("python3").arg("-B").arg(root().join("tests").join(script)).arg(&folder));
+    for name in crates {
         for file in ["stdin", "stdout"] {
-            let path = format!("{crate_folder}/{file}");
+            let path = format!("crates/{name}/{file}");
             assert!(fs::read(folder.join(&path)).unwrap() == stored(&path), "{path}");
         }
     }
     fs::remove_dir_all(folder).unwrap();
+}
+
+#[test]
+fn published_rows_and_replay() {
+    made_from_rows("published_rows.py", &["test_rows", "replay"]);
+}
+
+#[test]
+fn test_profile() {
+    made_from_rows("profile_rows.py", &["test_profile"]);
 }
 
 /// What print_pair reads and prints is document 01's example, by the port.

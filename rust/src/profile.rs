@@ -92,7 +92,11 @@ impl Satellite {
 
     /// Asks for a list of times, in order: a row for each to the front of the rooms. A row of 33 is refused as
     /// others are, and the list goes on. The list as a whole is refused with 32, 18 and 17, in this order.
-    pub fn list<'r>(&mut self, times: &[Microseconds], rooms: &'r mut Rooms<'_>) -> Result<Rows<'r>, Refusal> {
+    pub fn list<'r>(
+        &mut self,
+        times: &[Microseconds],
+        rooms: &'r mut Rooms<'_>,
+    ) -> Result<Rows<'r>, Refusal> {
         let Rooms { refusals, states, rounds } = rooms;
         let answer =
             Packed(ffi::request_list(&mut self.numbers, &mut self.marks, times, refusals, states, rounds));

@@ -51,6 +51,44 @@ fn c_example() {
     }
 }
 
+/// The profile from C: compiled without a hosted C library, and with nothing but its own archive.
+#[cfg(feature = "profile")]
+#[test]
+fn profile_example() {
+    const PROFILE: &str = "target/staticlib/libsaddlekerf_profile.a";
+    for optimisation in ["-O0", "-O2"] {
+        let (object, program) =
+            (in_tmp(&format!("profile{optimisation}.o")), in_tmp(&format!("profile{optimisation}")));
+        let compiler = |standard: &str| {
+            let mut command = Command::new("cc");
+            command.args([standard, "-Iinclude", optimisation, "-DHOSTED"]).args(WARNINGS);
+            command
+        };
+        run(compiler("-std=c99")
+            .args(["-ffreestanding", "-c", "tests/profile_example.c", "-o"])
+            .arg(&object));
+        run(compiler("-std=c99").arg(&object).arg(PROFILE).arg("-o").arg(&program));
+        run(&mut Command::new(&program));
+        // Both archives in one program, and the header in C++.
+        run(compiler("-std=c99").arg(&object).args([ARCHIVE, PROFILE]).arg("-o").arg(&program));
+        run(&mut Command::new(&program));
+    }
+    let object = in_tmp("profile_cxx.o");
+    let mut cxx = Command::new("c++");
+    cxx.args([
+        "-std=c++11",
+        "-Iinclude",
+        "-include",
+        "saddlekerf_profile.h",
+        "-x",
+        "c++",
+        "-c",
+        "/dev/null",
+        "-o",
+    ]);
+    run(cxx.args(WARNINGS).arg(&object));
+}
+
 /// A wrong answer is seen: one bit of one published row changed.
 #[test]
 fn c_example_sees_one_bit() {
