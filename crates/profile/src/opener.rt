@@ -106,18 +106,11 @@ fn dated(r: Record, epoch: instant::Epoch) -> Opening
     }
 }
 
-// Opens a record that reading gave: such a record is legal and need not be judged again.
-pub fn open_read(r: Record) -> Opening
-    ensures { λ y. ⌜ y ≡ O.openReadOf r ⌝ }
-{
-    dated(r, epoch_instant(r.year, r.day))
-}
-
 pub fn open(r: Record) -> Opening
     ensures { λ y. ⌜ y ≡ O.openOf r ⌝ }
 {
     if legal(r) {
-        return open_read(r);
+        return dated(r, epoch_instant(r.year, r.day));
     }
     Opening::Refused(Refusal::Record)
 }
