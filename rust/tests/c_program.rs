@@ -73,20 +73,9 @@ fn profile_example() {
         run(compiler("-std=c99").arg(&object).args([ARCHIVE, PROFILE]).arg("-o").arg(&program));
         run(&mut Command::new(&program));
     }
-    let object = in_tmp("profile_cxx.o");
     let mut cxx = Command::new("c++");
-    cxx.args([
-        "-std=c++11",
-        "-Iinclude",
-        "-include",
-        "saddlekerf_profile.h",
-        "-x",
-        "c++",
-        "-c",
-        "/dev/null",
-        "-o",
-    ]);
-    run(cxx.args(WARNINGS).arg(&object));
+    cxx.args(["-std=c++11", "-fsyntax-only", "-Iinclude", "-include", "saddlekerf_profile.h"]).args(WARNINGS);
+    run(cxx.args(["-x", "c++", "/dev/null"]));
 }
 
 /// A wrong answer is seen: one bit of one published row changed.
