@@ -1,6 +1,6 @@
 /*
  * Uses the library from C: reads, prints and opens pairs, reads and writes records, lodges pairs in a
- * roster with its row and withdraws them, lists what changed between two, moves instants, checks an award plan, asks for one time, for lists and for windows, and holds every answer, bit for bit, to document 01's example and to the rows of the
+ * roster with its row and withdraws them, lists what changed between two, moves instants, checks an award plan, puts times in order, asks for one time, for lists and for windows, and holds every answer, bit for bit, to document 01's example and to the rows of the
  * published test set; what memory holds afterwards too, with NaNs in it whose own bits must stay.
  *
  *   c_example bench/vectors/published-rows.txt
@@ -661,6 +661,43 @@ static void count_strides(void)
     CHECK(strides_at(&s, SADDLEKERF_TIME_LIMIT) == 7304);
 }
 
+/* Times in the best order: no time lost, none past the end touched, the same rows for fewer strides. */
+static void order_times(void)
+{
+    static const int64_t ordered[] = {0, 0, 1440 * MINUTE, 2880 * MINUTE, SADDLEKERF_TIME_LIMIT + 1, INT64_MAX,
+                                      -720 * MINUTE, -720 * MINUTE, INT64_MIN};
+    int64_t times[] = {2880 * MINUTE, -720 * MINUTE, 0, INT64_MIN, 1440 * MINUTE, SADDLEKERF_TIME_LIMIT + 1,
+                       -720 * MINUTE, 0, INT64_MAX, 77};
+    static const int64_t shuffled[] = {2880 * MINUTE, -720 * MINUTE, 1440 * MINUTE, 0};
+    static const size_t goes[] = {2, 3, 1, 0};
+    int64_t best[4];
+    uint8_t refusals[4], rounds[4];
+    double states[SADDLEKERF_STATE * 4], best_states[SADDLEKERF_STATE * 4];
+    static int64_t many[SADDLEKERF_LIST_LIMIT + 1];
+    saddlekerf_satellite s;
+    size_t i;
+
+    for (i = 0; i <= SADDLEKERF_LIST_LIMIT; i++)
+        many[i] = i % 2 == 0 ? (int64_t)(SADDLEKERF_LIST_LIMIT - i) : -(int64_t)i;
+    CHECK(saddlekerf_best_order(many, SADDLEKERF_LIST_LIMIT + 1) == SADDLEKERF_ANSWERED);
+    CHECK(many[0] == 0 && many[1] == 2 && many[512] == 1024 && many[513] == -1 && many[1024] == -1023);
+    CHECK(saddlekerf_best_order(NULL, 0) == SADDLEKERF_ANSWERED);
+    CHECK(saddlekerf_best_order(times, 1) == SADDLEKERF_ANSWERED && times[0] == 2880 * MINUTE);
+    CHECK(saddlekerf_best_order(times, 9) == SADDLEKERF_ANSWERED);
+    CHECK(memcmp(times, ordered, sizeof ordered) == 0 && times[9] == 77);
+    memcpy(best, shuffled, sizeof best);
+    CHECK(saddlekerf_best_order(best, 4) == SADDLEKERF_ANSWERED);
+    CHECK(open_lines(&s, RESONANT1, RESONANT2) == SADDLEKERF_ANSWERED);
+    CHECK(saddlekerf_strides(saddlekerf_satellite_request_list(&s, shuffled, 4, refusals, states, rounds)) == 7);
+    CHECK(open_lines(&s, RESONANT1, RESONANT2) == SADDLEKERF_ANSWERED);
+    CHECK(saddlekerf_strides(saddlekerf_satellite_request_list(&s, best, 4, refusals, best_states, rounds)) == 5);
+    for (i = 0; i < 4; i++) {
+        CHECK(best[goes[i]] == shuffled[i]);
+        CHECK(memcmp(&states[SADDLEKERF_STATE * i], &best_states[SADDLEKERF_STATE * goes[i]],
+                     SADDLEKERF_STATE * sizeof(double)) == 0);
+    }
+}
+
 /* A satellite opened in memory with an element to spare, and rooms marked throughout. */
 struct memory {
     double numbers[SADDLEKERF_NUMBERS + 1];
@@ -1075,6 +1112,7 @@ int main(int argc, char **argv)
     move_instants();
     check_plan();
     count_strides();
+    order_times();
     keep_memory();
     lend_nothing();
     ask_windows();

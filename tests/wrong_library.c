@@ -45,6 +45,7 @@ uint64_t __real_saddlekerf_request_list(SATELLITE, const int64_t *times, size_t 
         size_t firsts_length, uint64_t *lasts, size_t lasts_length
 uint64_t __real_saddlekerf_windows(SATELLITE, STATION);
 
+uint64_t __real_saddlekerf_best_order(int64_t *times, size_t times_length);
 uint64_t __real_saddlekerf_move(uint64_t instant, int64_t span, uint64_t *moved);
 uint64_t __real_saddlekerf_date(uint64_t instant, uint64_t *date, size_t date_length);
 uint64_t __real_saddlekerf_instant(uint64_t year, uint64_t day, uint64_t micros, uint64_t *instant);
@@ -416,4 +417,31 @@ uint64_t __wrap_saddlekerf_instant(uint64_t year, uint64_t day, uint64_t micros,
     if (a != 0 && day == 366 && wrong("instant-short-year")) /* day 366 of a common year */
         return __real_saddlekerf_instant(year + 1, 1, micros, instant);
     return a;
+}
+
+static uint64_t distance(int64_t time)
+{
+    return time < 0 ? -(uint64_t)time : (uint64_t)time;
+}
+
+static int nearer(const void *a, const void *b)
+{
+    const uint64_t x = distance(*(const int64_t *)a), y = distance(*(const int64_t *)b);
+    return (x > y) - (x < y);
+}
+
+uint64_t __wrap_saddlekerf_best_order(int64_t *times, size_t times_length)
+{
+    uint64_t a;
+    size_t i;
+    if (wrong("order-as-it-came"))
+        return SADDLEKERF_ANSWERED;
+    a = __real_saddlekerf_best_order(times, times_length);
+    if (times_length > 1 && wrong("order-in-turns")) /* by distance alone */
+        qsort(times, times_length, sizeof *times, nearer);
+    if (wrong("order-drops-equal")) /* of equal times one is kept */
+        for (i = times_length; i-- > 1;)
+            if (times[i] == times[i - 1])
+                times[i] = 0;
+    return times_length > SADDLEKERF_LIST_LIMIT && wrong("order-long") ? SADDLEKERF_LIST : a;
 }

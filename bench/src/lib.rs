@@ -13,6 +13,7 @@
 //! - [`changes`]: what changed between two rosters.
 //! - [`award`]: award plans checked.
 //! - [`moves`]: instants moved twice, and dated.
+//! - [`orders`]: times put in the best order, and lists asked in it.
 //! - [`sgp4`]: 002's model.
 //! - [`request`]: opening, single requests and lists, the saved position.
 //! - [`profile`]: near-Earth satellites from 0 to 30 days.
@@ -29,6 +30,7 @@ pub mod generate;
 pub mod instant;
 pub mod library;
 pub mod moves;
+pub mod orders;
 pub mod profile;
 pub mod proved;
 pub mod published;

@@ -141,6 +141,11 @@ fn test_award() {
     written("tests/award_plans.py", "crates/test_award");
 }
 
+#[test]
+fn test_orders() {
+    written("tests/time_orders.py", "crates/test_orders");
+}
+
 /// The plan of check_award, as its text.
 #[test]
 fn check_award() {

@@ -173,6 +173,8 @@ mod c {
             rounds_length: usize,
         ) -> u64;
 
+        pub fn saddlekerf_best_order(times: *mut i64, times_length: usize) -> u64;
+
         pub fn saddlekerf_windows(
             numbers: *mut f64,
             numbers_length: usize,
@@ -404,6 +406,11 @@ pub fn request_list(
             rounds.len(),
         )
     }
+}
+
+pub fn best_order(times: &mut [Microseconds]) -> u64 {
+    // SAFETY: a mutable slice. A time is an i64 (`repr(transparent)`), and any i64 is a time.
+    unsafe { c::saddlekerf_best_order(times.as_mut_ptr().cast(), times.len()) }
 }
 
 #[allow(clippy::too_many_arguments)]

@@ -116,7 +116,7 @@ pub use refusal::{Field, Line, Refusal};
 pub use report::{count_text, Date, Report};
 pub use roster::{changes, fill_row, lodge, withdraw, Pair, Roster, Uncompared, Which};
 pub use satellite::{Answer, Rooms, Row, Rows, Satellite, State, Window, Windows};
-pub use time::{Instant, Microseconds, Strides, Unmoved};
+pub use time::{best_order, Instant, Microseconds, Strides, Unmoved};
 
 use refusal::Answer as Packed;
 

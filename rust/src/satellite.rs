@@ -2,7 +2,7 @@
 
 use crate::ffi;
 use crate::refusal::{Answer as Packed, Refusal};
-use crate::{Instant, Microseconds, Strides};
+use crate::{best_order, Instant, Microseconds, Strides};
 
 /// Position and velocity in SGP4's own frame: true equator, mean equinox (TEME).
 #[derive(Clone, Copy, Debug, Default, PartialEq)]
@@ -196,6 +196,45 @@ impl Satellite {
             Packed(ffi::request_list(&mut self.numbers, &mut self.marks, times, refusals, states, rounds));
         let strides = Strides(answer.counted()?);
         Ok(Rows::of(rooms, times.len(), strides))
+    }
+
+    /// Asks for a list of times in the best order ([`best_order`]) and hands the rows back in the
+    /// list's own: of a satellite of lines the same rows, bit for bit, as [`list`](Self::list), and of
+    /// one newly opened for the fewest strides that any order takes. The list is refused as by `list`.
+    ///
+    /// ```
+    /// use saddlekerf::{Microseconds, Refusal, Rooms, Satellite, State, Strides};
+    ///
+    /// # fn main() -> Result<(), Refusal> {
+    /// let line1 = b"1 08195U 75081A   06176.33215444  .00000099  00000-0  11873-3 0   813";
+    /// let line2 = b"2 08195  64.1586 279.0717 6877146 264.7651  20.2257  2.00491383225656";
+    /// let mut satellite = Satellite::open(line1, line2)?;
+    /// let times = [2880, -720, 1440, 0].map(Microseconds::from_minutes);
+    /// let mut rooms =
+    ///     Rooms { refusals: &mut [0; 4], states: &mut [State::default(); 4], rounds: &mut [0; 4] };
+    /// let rows = satellite.list_in_best_order(&times, &mut rooms)?;
+    /// assert_eq!(rows.strides(), Strides(5));
+    /// assert_eq!(rows.row(2)?.state, Satellite::open(line1, line2)?.at(times[2])?);
+    /// # Ok(())
+    /// # }
+    /// ```
+    pub fn list_in_best_order<'r>(
+        &mut self,
+        times: &[Microseconds],
+        rooms: &'r mut Rooms<'_>,
+    ) -> Result<Rows<'r>, Refusal> {
+        let mut ordered = times.to_vec();
+        best_order(&mut ordered);
+        let strides = self.list(&ordered, rooms)?.strides();
+        let Rooms { refusals, states, rounds } = rooms;
+        let count = times.len();
+        let rows: Vec<_> = (0..count).map(|place| (refusals[place], states[place], rounds[place])).collect();
+        let side = |time: &Microseconds| (time.0 < 0, time.0.unsigned_abs());
+        for (index, time) in times.iter().enumerate() {
+            let place = ordered.binary_search_by_key(&side(time), side).expect("a time of the list");
+            (refusals[index], states[index], rounds[index]) = rows[place];
+        }
+        Ok(Rows { refusals: &refusals[..count], states: &states[..count], rounds: &rounds[..count], strides })
     }
 
     /// The instant of the epoch, which the satellite keeps.

@@ -21,6 +21,24 @@ impl Microseconds {
     }
 }
 
+/// Puts times in the best order, in place: zeros first, then those after the epoch outward, then those
+/// before it outward. Times out of range are put in order as all others are.
+///
+/// A satellite newly opened and asked for a list in this order takes the strides to the farthest time on
+/// each side, added, and in no order fewer. Each row goes where its time goes
+/// ([`Satellite::list_in_best_order`](crate::Satellite::list_in_best_order) brings them back).
+///
+/// ```
+/// use saddlekerf::{best_order, Microseconds};
+///
+/// let mut times = [5, -2, 0, 9, -1, 5].map(Microseconds);
+/// best_order(&mut times);
+/// assert_eq!(times, [0, 5, 5, 9, -1, -2].map(Microseconds));
+/// ```
+pub fn best_order(times: &mut [Microseconds]) {
+    Packed(ffi::best_order(times)).plain().expect("a call that is never refused");
+}
+
 /// Microseconds since 1957 January 1, 0h UTC, in days of 86,400 seconds.
 #[derive(Clone, Copy, Debug, PartialEq, Eq, PartialOrd, Ord, Hash)]
 pub struct Instant(pub u64);

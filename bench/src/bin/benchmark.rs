@@ -11,6 +11,7 @@
 use port::award;
 use port::elementary::{DocumentProcessor, Libm};
 use port::library::{Library, Port, Restarting, Timed};
+use port::orders;
 use port::proved::Proved;
 use port::published;
 use port::report::PAIRS;
@@ -140,6 +141,32 @@ fn heading(names: &[String]) {
     println!();
 }
 
+/// A shuffled list of both sides over 100 days asked of a newly opened satellite, as it comes and in the
+/// best order, and putting it in order by itself: nanoseconds per time, and the strides.
+fn orders(rounds: usize) {
+    println!("\n| 1,024 times in no order over 100 days | as they come: ns | strides | in the best order: ns | strides | ratio |");
+    println!("|---|---:|---:|---:|---:|---:|");
+    let times = orders::shuffled(100);
+    for (kind, catalogue) in SATELLITES {
+        let (line1, line2) = pair(catalogue);
+        let strides = [false, true].map(|best| orders::Timing::of(&line1, &line2, &times, best).strides());
+        let mut timed = [false, true]
+            .map(|best| Box::new(orders::Timing::of(&line1, &line2, &times, best)) as Box<dyn Timed>);
+        let best = race(&mut timed, rounds, 1, LIST_LIMIT);
+        let strides = strides.map(|strides| grouped(strides as u64));
+        let (came, ordered) = (best[0], best[1]);
+        println!(
+            "| {kind} | {came:.1} | {} | {ordered:.1} | {} | {:.3} |",
+            strides[0],
+            strides[1],
+            ordered / came
+        );
+    }
+    let mut timed = [Box::new(orders::Ordering { shuffled: times, times: Vec::new() }) as Box<dyn Timed>];
+    let best = race(&mut timed, rounds, 1, LIST_LIMIT);
+    println!("\nPutting them in order alone: {:.1} ns per time.", best[0]);
+}
+
 fn main() {
     let arguments: Vec<String> = std::env::args().collect();
     let rounds = match arguments.iter().position(|argument| argument == "--rounds") {
@@ -192,4 +219,5 @@ fn main() {
     let mut timed =
         checkers.map(|check| Box::new(award::Timing { plan: plan.clone(), check }) as Box<dyn Timed>);
     show("checking an award plan of 256 offers, all named", &race(&mut timed, rounds, RUNS / 20, 1));
+    orders(rounds);
 }

@@ -25,6 +25,7 @@ ghost use Rattle.lent_requests.specs.Requests as R;
 ghost use Rattle.lent_windows.specs.Windows as W;
 ghost use Rattle.award.specs.Plan.{answerOf};
 ghost use Rattle.lent_award.specs.Answer.{awardAnswer};
+ghost use Rattle.outward_order.specs.Order.{bestOrder};
 ghost use Rattle.instant.specs.Calendar.{dateOf};
 ghost use Rattle.instant.specs.Move.{moveOf};
 ghost use Rattle.lent_instants.specs.Instants.{movedAnswer, movedPut, instantOf, dateAnswer, dateOver};
@@ -51,6 +52,7 @@ use lent_pairs::write_answer;
 use lent_requests::request_held;
 use lent_requests::request_list_held;
 use lent_windows::windows_held;
+use outward_order::best_order;
 use report::numbers::count_text;
 
 // The version of the library, as one number.
@@ -257,6 +259,15 @@ pub extern "C" fn saddlekerf_windows(
     ensures { λ r. ⌜ W.WindowsPost (now (numbers .entry)) (now (marks .entry)) (now (station .entry)) start step samples (now (firsts .entry)) (now (lasts .entry)) r (now (numbers .exit)) (now (marks .exit)) (now (firsts .exit)) (now (lasts .exit)) ⌝ }
 {
     windows_held(numbers, marks, station, start, step, samples, firsts, lasts)
+}
+
+// Puts a list of times in the order that takes the fewest strides of a newly opened satellite.
+#[no_mangle]
+pub extern "C" fn saddlekerf_best_order(times: &mut [i64]) -> u64
+    ensures { λ r. ⌜ (r ≡ 0) × (now (times .exit) ≡ bestOrder (now (times .entry))) ⌝ }
+{
+    best_order(times);
+    0
 }
 
 // Checks an award plan: offers of four numbers each, entries that name offers, the claimed total in cents
