@@ -526,10 +526,11 @@ uint64_t saddlekerf_request_list(double *numbers, size_t numbers_length,
 
 /*
  * Puts a list of times, of any length, in the best order, in place: zeros first, then the times after
- * the epoch outward, then those before it outward. Times out of range are put in order as all others.
- * A satellite newly opened and asked for the list in this order takes the strides to the farthest time on
- * each side, added, and in no order fewer; each row goes where its time goes, with the same bits.
- * 1,024 times take some 50 microseconds. Answer: 0, always.
+ * the epoch outward, then those before it outward. A satellite newly opened and asked for a list of times
+ * in range takes in this order the strides to the farthest time on each side, added, and in no order
+ * fewer; each row goes where its time goes, with the same bits. Times out of range are put in order as
+ * all others; they take no strides wherever they stand.
+ * 1,024 times take some 30 microseconds. Answer: 0, always.
  */
 uint64_t saddlekerf_best_order(int64_t *times, size_t times_length);
 

@@ -35,6 +35,9 @@
 //! # }
 //! ```
 //!
+//! Times of both sides of the epoch, in any order, are asked for the fewest strides by
+//! [`Satellite::list_in_best_order`].
+//!
 //! A roster keeps up to 64 pairs, one a catalogue number, in 8,832 bytes, and their instants in a row:
 //!
 //! ```

@@ -24,8 +24,8 @@ impl Microseconds {
 /// Puts times in the best order, in place: zeros first, then those after the epoch outward, then those
 /// before it outward. Times out of range are put in order as all others are.
 ///
-/// A satellite newly opened and asked for a list in this order takes the strides to the farthest time on
-/// each side, added, and in no order fewer. Each row goes where its time goes
+/// A satellite newly opened and asked for a list of times in range takes in this order the strides to the
+/// farthest time on each side, added, and in no order fewer. Each row goes where its time goes
 /// ([`Satellite::list_in_best_order`](crate::Satellite::list_in_best_order) brings them back).
 ///
 /// ```
