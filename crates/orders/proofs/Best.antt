@@ -1,16 +1,13 @@
 -- Wish 14: of a satellite newly opened from two accepted lines, and a list of in-range times that is not refused.
-use mathlib.Core.Path.{_≡_, refl, sym, ap, _∙_, subst}
-use mathlib.Core.Bool.{true, false, cond}
+use mathlib.Core.Path.{_≡_, ap, _∙_}
 use mathlib.Core.List.{List, [], _∷_, map}
-use Prim.Native.Nat.{ℕ, _+_, _≤_}
+use Prim.Native.Nat.{ℕ, _≤_}
 use native.Mathlib.Omega.{arith}
 use lib.ListN.{length, getD}
-use lib.Dec.{eqb}
 use lib.IntN.{ℤ}
 use Rattle.resonance.specs.declared.place.Side.{Side}
 use Rattle.resonance.specs.declared.place.Side.the-variants.{Forward, Back}
 use Rattle.resonance.specs.Place.{epochOf}
-use Rattle.resonance.specs.Time.{wholeStrides}
 use Rattle.sgp4.specs.declared.Row.{Row}
 use Rattle.sgp4.specs.Sgp4.{integratorOf}
 use Rattle.tle.specs.declared.Record.{Record}
@@ -20,11 +17,11 @@ use Rattle.opening.specs.declared.opening.Satellite.{Satellite}
 use Rattle.opening.specs.declared.opening.Opening.the-variants as opening
 use Rattle.opening.specs.Opening.{openOf}
 use Rattle.requests.specs.Lists.{listRefusal, listTimes, listed}
-use Rattle.sequences.specs.Demand3.{Request, Many, outcome, sum, none, countsOf, rowAlone}
+use Rattle.sequences.specs.Demand3.{Many, outcome, sum, none, countsOf, rowAlone}
 use Rattle.sequences.proofs.Demand3.{from-epoch, opened-place}
 use Rattle.outward_order.specs.Order.{bestOrder}
 use Rattle.orders.specs.Places.{Places, Rearranged}
-use Rattle.orders.specs.Best.{AllInRange, farthestOn, bothSides, OutwardFrom, BestOrder}
+use Rattle.orders.specs.Best.{AllInRange, bothSides, OutwardFrom, BestOrder}
 use Rattle.orders.proofs.Counts.{at-least, exactly}
 use Rattle.orders.proofs.Moving.{map-rearranged, range-rearranged, farthest-rearranged}
 use Rattle.orders.proofs.Sorting.{outward-order}

@@ -12,9 +12,9 @@ use Rattle.satellite.specs.declared.Integrator.{Integrator}
 use Rattle.resonance.specs.declared.place.Side.{Side}
 use Rattle.resonance.specs.declared.place.Side.the-variants.{Forward, Back}
 use Rattle.resonance.specs.Place.{sameSide}
-use Rattle.resonance.specs.Time.{sideOf, inRange, resonant, strideNeed, wholeStrides}
-use Rattle.sequences.specs.Demand3.{Last, none, after, countIn, countOf, lastOf, countsOf, lastsOf, Outward, farthest}
-use Rattle.orders.specs.Best.{AllInRange, distanceOn, farthestOn, otherSide, AtEpoch, OutwardFrom}
+use Rattle.resonance.specs.Time.{sideOf, resonant, strideNeed, wholeStrides}
+use Rattle.sequences.specs.Demand3.{Last, none, after, countIn, lastOf, countsOf, lastsOf, Outward, farthest}
+use Rattle.orders.specs.Best.{AllInRange, farthestOn, otherSide, AtEpoch, OutwardFrom}
 
 -- ── whole strides ──
 

@@ -1,5 +1,5 @@
 -- An outward order of any list of times.
-use mathlib.Core.Path.{_≡_, refl, sym, ap, _∙_, subst}
+use mathlib.Core.Path.{_≡_, refl, ap, _∙_, subst}
 use mathlib.Core.Logic.{_⊎_, inl, inr}
 use mathlib.Core.Bool.{Bool, true, false, cond}
 use mathlib.Core.List.{List, [], _∷_, _++_}
@@ -14,7 +14,7 @@ use Rattle.resonance.specs.declared.place.Side.the-variants.{Forward, Back}
 use Rattle.resonance.specs.Time.{sideOf}
 use Rattle.sequences.specs.Demand3.{Outward}
 use Rattle.orders.specs.Places.{Places, Rearranged}
-use Rattle.orders.specs.Best.{otherSide, AtEpoch, OutwardFrom}
+use Rattle.orders.specs.Best.{otherSide, OutwardFrom}
 
 -- ── rearrangements step by step ──
 

@@ -1,16 +1,14 @@
 -- Wish 14, in lent memory: rows written, rearranged.
-use mathlib.Core.Path.{_≡_, refl, sym, ap, _∙_, subst}
-use mathlib.Core.List.{List, [], _∷_, _++_}
-use Prim.Native.Nat.{ℕ, zero, suc, _+_, _*_, _≤_, _<_}
+use mathlib.Core.Path.{_≡_, refl, sym, ap, _∙_}
+use mathlib.Core.List.{List, [], _∷_}
+use Prim.Native.Nat.{ℕ, zero, suc, _+_, _*_, _<_}
 use native.Mathlib.Omega.{arith}
 use lib.ListN.{length, getD, drop, List·getD-append}
 use lib.Seq.{getD-append-add}
 use lib.IntN.{ℤ}
 use lib.Ieee.{Float}
-use Rattle.resonance.specs.Place.{epochOf}
 use Rattle.sgp4.specs.declared.Row.{Row}
 use Rattle.sgp4.specs.Row.{refusedRow}
-use Rattle.sgp4.specs.Sgp4.{integratorOf}
 use Rattle.tle.specs.declared.Record.{Record}
 use Rattle.tle.specs.declared.Reading.the-variants as reading
 use Rattle.tle.specs.Read.{readOf}
@@ -18,7 +16,7 @@ use Rattle.opening.specs.declared.opening.Satellite.{Satellite}
 use Rattle.opening.specs.declared.opening.Opening.the-variants as opening
 use Rattle.opening.specs.Opening.{openOf}
 use Rattle.requests.specs.declared.ListAnswer.{ListAnswer}
-use Rattle.requests.specs.Lists.{rowsFrom, refusalsOf, roundsOf, stateOf, statesOf, over, listTimes, listRefusal, listed, ListPost}
+use Rattle.requests.specs.Lists.{rowsFrom, refusalsOf, roundsOf, stateOf, statesOf, over, listTimes, listRefusal, ListPost}
 use Rattle.sequences.proofs.Demand3.{opened-place}
 use Rattle.orders.specs.Places.{Places, Rearranged}
 use Rattle.orders.specs.Written.{Written}
