@@ -1,0 +1,63 @@
+"""Many satellites at many times, on all cores."""
+
+from __future__ import annotations
+
+import os
+from collections.abc import Callable, Iterable
+from concurrent.futures import ThreadPoolExecutor
+from typing import Any
+
+from .._arrays import numpy
+from ..julian import instants_of
+from .rows import fill
+from .satrec import Satrec
+
+#: Rows from which on more than one thread is worth its start.
+_MANY = 20_000
+
+
+class SatrecArray:
+    """Satellites asked for the same times; calls run in as many threads as there are cores."""
+
+    __slots__ = ("_satellites",)
+
+    def __init__(self, satrecs: Iterable[Satrec]) -> None:
+        self._satellites = list(satrecs)
+        for satellite in self._satellites:
+            if not isinstance(satellite, Satrec):
+                raise TypeError(f"a satellite is a saddlekerf.sgp4.Satrec, not {type(satellite).__name__}")
+
+    def __len__(self) -> int:
+        return len(self._satellites)
+
+    def sgp4(self, jd: Any, fr: Any) -> tuple[Any, Any, Any]:
+        """Errors, positions and velocities: of m satellites at n times m × n, m × n × 3 and m × n × 3.
+
+        `jd` and `fr` are NumPy arrays, or sequences, of one length. Without NumPy the three are lists.
+        """
+        if numpy is None:
+            rows = [satellite.sgp4_array(jd, fr) for satellite in self._satellites]
+            return [row[0] for row in rows], [row[1] for row in rows], [row[2] for row in rows]
+        times = instants_of(jd, fr)
+        count = len(self), len(times)
+        errors, states = numpy.empty(count, numpy.uint8), numpy.empty((*count, 6))
+
+        def work(block: slice) -> None:
+            satellites = self._satellites[block]
+            asked = [satellite._memory for satellite in satellites]
+            for satellite, refusal in zip(satellites, fill(asked, times, errors[block], states[block])):
+                satellite._refusal = refusal
+
+        self._on_all_cores(work, errors.size)
+        return errors, states[:, :, :3], states[:, :, 3:]
+
+    def _on_all_cores(self, work: Callable[[slice], None], rows: int) -> None:
+        """Does the work for all satellites, block by block where there are many rows."""
+        threads = len(os.sched_getaffinity(0)) if rows >= _MANY else 1
+        if threads == 1:
+            return work(slice(None))
+        # Blocks small enough that no core waits long for the last one.
+        size = max(1, len(self) // (8 * threads))
+        with ThreadPoolExecutor(threads) as pool:
+            for _ in pool.map(work, [slice(at, at + size) for at in range(0, len(self), size)]):
+                pass
