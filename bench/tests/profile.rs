@@ -168,3 +168,40 @@ fn refused_lists() {
     assert_eq!(rows.row(0), Err(Refusal::ProfileTime));
     assert!(satellite.list(&[], &mut rooms).unwrap().is_empty());
 }
+
+/// Whether a row of the published near-Earth satellites is another than a request's.
+fn differs(request: fn(&mut Satellite, i64) -> Row) -> bool {
+    port::published::pairs().iter().any(|(line1, line2)| {
+        let (Ok(mut ported), Ok(mut opened)) =
+            (Satellite::open(line1, line2), profile::Satellite::open(line1, line2))
+        else {
+            return false;
+        };
+        edges()
+            .iter()
+            .any(|&time| !row_of(opened.request(Microseconds(time))).same(&request(&mut ported, time)))
+    })
+}
+
+/// The rows are those of the port, and not those of ports that slip.
+#[test]
+fn slips_are_seen() {
+    assert!(!differs(Satellite::request));
+    let slips: [fn(&mut Satellite, i64) -> Row; 6] = [
+        |_, _| Row { refusal: 33, ..Row::EMPTY },
+        |ported, time| ported.request(if time == LATEST { time + 1 } else { time }),
+        |ported, time| ported.request(if time == LATEST + 1 { LATEST } else { time }),
+        |ported, time| ported.request(if time == -1 { 1 } else { time }),
+        |ported, time| {
+            let row = ported.request(time);
+            Row { refusal: if row.refusal == 33 { 9 } else { row.refusal }, ..row }
+        },
+        |ported, time| {
+            let row = ported.request(time);
+            Row { rounds: row.rounds + 1, ..row }
+        },
+    ];
+    for (number, slip) in slips.into_iter().enumerate() {
+        assert!(differs(slip), "slip {number}");
+    }
+}

@@ -78,6 +78,26 @@ fn profile_example() {
     run(cxx.args(["-x", "c++", "/dev/null"]));
 }
 
+/// Every wrong library of the profile is told.
+#[cfg(feature = "profile")]
+#[test]
+fn profile_example_sees_wrong_libraries() {
+    let (names, functions) = wrong_libraries("tests/wrong_profile.c");
+    assert!(names.len() >= 15 && functions.len() == 3, "{names:?} {functions:?}");
+    let program = in_tmp("profile_wrong");
+    let mut command = Command::new("cc");
+    command.args(["-std=c99", "-Iinclude", "-DHOSTED"]).args(WARNINGS).arg("-o").arg(&program);
+    command.args(["tests/profile_example.c", "tests/wrong_profile.c"]);
+    command.args(functions.iter().map(|name| format!("-Wl,--wrap={name}")));
+    run(command.arg("target/staticlib/libsaddlekerf_profile.a"));
+    let status =
+        |name: &str| output(Command::new(&program).env("WRONG_LIBRARY", name)).status.code().unwrap();
+    assert_eq!(status(""), 0);
+    for name in &names {
+        assert_eq!(status(name), 1, "{name} is not seen");
+    }
+}
+
 /// A wrong answer is seen: one bit of one published row changed.
 #[test]
 fn c_example_sees_one_bit() {
@@ -92,9 +112,9 @@ fn c_example_sees_one_bit() {
     assert!(String::from_utf8_lossy(&output.stdout).ends_with(" checks, 2 failed\n"));
 }
 
-/// The wrong libraries of tests/wrong_library.c, and the functions that it stands in front of.
-fn wrong_libraries() -> (Vec<String>, Vec<String>) {
-    let source = std::fs::read_to_string(root().join("tests/wrong_library.c")).unwrap();
+/// The wrong libraries of a file, and the functions that it stands in front of.
+fn wrong_libraries(file: &str) -> (Vec<String>, Vec<String>) {
+    let source = std::fs::read_to_string(root().join(file)).unwrap();
     let after = |start: &str, end: char| -> Vec<String> {
         let mut found: Vec<String> =
             source.split(start).skip(1).map(|rest| rest.split(end).next().unwrap().to_string()).collect();
@@ -108,7 +128,7 @@ fn wrong_libraries() -> (Vec<String>, Vec<String>) {
 /// Every wrong library is told; the same program without a wrong library chosen finds nothing.
 #[test]
 fn c_example_sees_wrong_libraries() {
-    let (names, functions) = wrong_libraries();
+    let (names, functions) = wrong_libraries("tests/wrong_library.c");
     assert!(names.len() >= 20 && functions.len() >= 9, "{names:?} {functions:?}");
     let program = in_tmp("c_example_wrong");
     let wraps: Vec<String> = functions.iter().map(|name| format!("-Wl,--wrap={name}")).collect();
