@@ -73,7 +73,7 @@ pub fn put_part(out: &mut [u8], at: usize, line: &[u8], from: usize, n: usize) -
 }
 
 // The line's first 80 columns, set in by four blanks.
-fn put_shown(out: &mut [u8], at: usize, line: &[u8]) -> usize
+pub fn put_shown(out: &mut [u8], at: usize, line: &[u8]) -> usize
     ensures { λ r. ⌜ Put (now (out .entry)) at (shown (now (line .entry))) (now (out .exit)) r ⌝ }
 {
     let p = put_bytes(out, at, b"    ");

@@ -1,0 +1,73 @@
+// What opening a record comes to in a word: the kind of the satellite, or why there is none.
+ghost use mathlib.Core.Path.{_≡_};
+ghost use Rattle.opening.specs.Opening.{openOf};
+ghost use Rattle.satellite_kind.specs.Kind as K;
+use opening::opening::Opening;
+use opening::opening::Refusal;
+use opening::opening::open;
+use satellite::Method;
+use satellite::Resonance;
+use tle::Record;
+
+// Document 01's kinds of satellites, and refusals 7, 8 and 16.
+pub enum Kind {
+    NearEarth,
+    DeepSpace,
+    OneDay,
+    HalfDay,
+    Perigee,
+    NotFinite,
+    NoRecord,
+}
+
+fn resonance_kind(resonance: Resonance) -> Kind
+    ensures { λ k. ⌜ k ≡ K.resonanceKind resonance ⌝ }
+{
+    match resonance {
+        Resonance::None => Kind::DeepSpace,
+        Resonance::OneDay(_) => Kind::OneDay,
+        Resonance::HalfDay(_) => Kind::HalfDay,
+    }
+}
+
+fn method_kind(method: Method) -> Kind
+    ensures { λ k. ⌜ k ≡ K.methodKind method ⌝ }
+{
+    match method {
+        Method::NearEarth => Kind::NearEarth,
+        Method::DeepSpace(d) => {
+            let integrator = d.integrator;
+            let resonance = integrator.resonance;
+            resonance_kind(resonance)
+        }
+    }
+}
+
+fn refusal_kind(why: Refusal) -> Kind
+    ensures { λ k. ⌜ k ≡ K.refusalKind why ⌝ }
+{
+    match why {
+        Refusal::Record => Kind::NoRecord,
+        Refusal::Perigee => Kind::Perigee,
+        Refusal::NotFinite => Kind::NotFinite,
+    }
+}
+
+fn opening_kind(opening: Opening) -> Kind
+    ensures { λ k. ⌜ k ≡ K.openingKind opening ⌝ }
+{
+    match opening {
+        Opening::Opened(s) => {
+            let model = s.model;
+            let method = model.method;
+            method_kind(method)
+        }
+        Opening::Refused(why) => refusal_kind(why),
+    }
+}
+
+pub fn kind_of(r: Record) -> Kind
+    ensures { λ k. ⌜ k ≡ K.openingKind (openOf r) ⌝ }
+{
+    opening_kind(open(r))
+}
