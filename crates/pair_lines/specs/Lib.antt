@@ -1,0 +1,3 @@
+pub mod Sort
+pub mod Said
+pub mod Examples
