@@ -161,7 +161,7 @@ def explain(text):
             told.append(f"line {number} is too long to be held; it begins:\n" + shown(line))
         elif not line.strip(b" \t\r"):
             told.append(f"line {number} is blank.\n")
-        elif line[:2] == b"1 " or line[:2] != b"2 " and len(line) == 69:
+        elif line[:2] == b"1 " or line[:2] != b"2 " and len(line) == 69 and not waits:
             alone()
             waits = number, line
         elif waits:

@@ -110,6 +110,14 @@ fn follow(failed: &mut bool, t: Tally, line1: &[u8], line: &[u8], alone: Remark)
     t
 }
 
+// A line of 69 bytes that begins otherwise: the second of the pair that waits, or a first.
+fn begin_or_follow(failed: &mut bool, t: Tally, line1: &mut [u8], line: &[u8]) -> Tally {
+    if t.held > 0 {
+        return follow(failed, t, line1, line, Remark::Name);
+    }
+    hold(failed, t, line1, line)
+}
+
 fn take_line(failed: &mut bool, t: Tally, line1: &mut [u8], line: &[u8]) -> Tally {
     match sort_of(line) {
         Sort::Blank => {
@@ -118,6 +126,7 @@ fn take_line(failed: &mut bool, t: Tally, line1: &mut [u8], line: &[u8]) -> Tall
         }
         Sort::One => hold(failed, t, line1, line),
         Sort::Two => follow(failed, t, line1, line, Remark::NoFirst),
+        Sort::Whole => begin_or_follow(failed, t, line1, line),
         Sort::Other => follow(failed, t, line1, line, Remark::Name),
     }
 }

@@ -6,7 +6,7 @@ use Prim.Native.Char.{code}
 use lib.Dec.{eqb, ltb}
 use lib.ListN.{length, getD}
 use Rattle.pair_lines.specs.declared.Sort.{Sort}
-use Rattle.pair_lines.specs.declared.Sort.the-variants.{Blank, One, Two, Other}
+use Rattle.pair_lines.specs.declared.Sort.the-variants.{Blank, One, Two, Whole, Other}
 
 -- a blank, a tab or a carriage return
 abbrev pub isSpace : ℕ → Bool
@@ -20,7 +20,7 @@ allBlank (b ∷ bs) = cond (isSpace b) (allBlank bs) false
 unfoldable pub begins : ℕ → List ℕ → Bool
 begins digit line = cond (ltb (length line) 2) false (eqb (getD line 0 0) digit && eqb (getD line 1 0) (code " "))
 
--- a line 1 or a line 2 is known by its first two columns; of the others one of 69 bytes is a line 1 too: no name has that length
+-- a line 1 or a line 2 is known by its first two columns; another line of 69 bytes may be either: no name has that length
 unfoldable pub sortOf : List ℕ → Sort
 sortOf line =
-    cond (allBlank line) Blank (cond (begins (code "1") line) One (cond (begins (code "2") line) Two (cond (eqb (length line) 69) One Other)))
+    cond (allBlank line) Blank (cond (begins (code "1") line) One (cond (begins (code "2") line) Two (cond (eqb (length line) 69) Whole Other)))

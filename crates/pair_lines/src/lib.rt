@@ -13,6 +13,7 @@ pub enum Sort {
     Blank,
     One,
     Two,
+    Whole,
     Other,
 }
 
@@ -41,8 +42,8 @@ fn begins(line: &[u8], digit: u8) -> bool
     (line[0] == digit) & (line[1] == b' ')
 }
 
-// A line 1 or a line 2 is known by its first two columns. Of the others one of 69 bytes is a line 1 too: no
-// name has that length.
+// A line 1 or a line 2 is known by its first two columns. Another line of 69 bytes may be either: no name
+// has that length.
 pub fn sort_of(line: &[u8]) -> Sort
     ensures { λ r. ⌜ r ≡ sortOf (now (line .entry)) ⌝ }
 {
@@ -56,7 +57,7 @@ pub fn sort_of(line: &[u8]) -> Sort
         return Sort::Two;
     }
     if line.len() == 69 {
-        return Sort::One;
+        return Sort::Whole;
     }
     Sort::Other
 }
