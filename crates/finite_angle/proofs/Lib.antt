@@ -1,0 +1,3 @@
+-- Bounds on rounded results, and the theorem.
+mod Bounds
+pub mod Angle
