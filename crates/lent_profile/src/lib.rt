@@ -14,7 +14,7 @@ use answers::answer;
 use answers::refusal_answer;
 use instant::Microseconds;
 use profile::opener::Opening;
-use profile::opener::open;
+use profile::opener::open_read;
 use profile::rows::Listed;
 use profile::rows::request;
 use profile::rows::request_list;
@@ -34,12 +34,13 @@ fn opening_answer(why: profile::opener::Refusal) -> u64
     why.number()
 }
 
+// Opens a record that reading gave.
 fn open_record(r: Record, numbers: &mut [f64], marks: &mut [u32]) -> u64
-    ensures { λ k. ⌜ k ≡ O.openedAnswer (P.openOf r) (length (now (numbers .entry))) (length (now (marks .entry))) ⌝ }
-    ensures { λ _. ⌜ now (numbers .exit) ≡ O.openedNumbers (P.openOf r) (now (numbers .entry)) (now (marks .entry)) ⌝ }
-    ensures { λ _. ⌜ now (marks .exit) ≡ O.openedMarks (P.openOf r) (now (numbers .entry)) (now (marks .entry)) ⌝ }
+    ensures { λ k. ⌜ k ≡ O.openedAnswer (P.openReadOf r) (length (now (numbers .entry))) (length (now (marks .entry))) ⌝ }
+    ensures { λ _. ⌜ now (numbers .exit) ≡ O.openedNumbers (P.openReadOf r) (now (numbers .entry)) (now (marks .entry)) ⌝ }
+    ensures { λ _. ⌜ now (marks .exit) ≡ O.openedMarks (P.openReadOf r) (now (numbers .entry)) (now (marks .entry)) ⌝ }
 {
-    match open(r) {
+    match open_read(r) {
         Opening::Opened(near, epoch) => answer(store_near(near, epoch, numbers, marks), 0, 0, 0),
         Opening::Refused(why) => opening_answer(why),
     }

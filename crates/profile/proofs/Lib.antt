@@ -1,5 +1,5 @@
 -- The profile is the full program, narrowed (Same, Demand3). The rest serves the proofs of the functions.
-mod Narrow
+pub mod Narrow
 pub mod Near
 mod Filling
 mod Rooms

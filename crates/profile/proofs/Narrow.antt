@@ -1,10 +1,13 @@
 -- The full program's opening, narrowed, at each of the tests that the profile's opening takes.
-use mathlib.Core.Path.{_≡_, refl, sym}
+use mathlib.Core.Path.{_≡_, refl, sym, ap}
 use mathlib.Core.Bool.{Bool, true, false, cond, _&&_}
 use lib.Ieee.{Float, lt}
 use Rattle.elementary.specs.Notation.{dec, finite}
 use Rattle.instant.specs.declared.Instant.{Instant}
+use Rattle.instant.specs.Calendar.{epochOf}
 use Rattle.instant.specs.Greenwich.{greenwichOf}
+use Rattle.tle.specs.declared.Record.{Record}
+use Rattle.tle.specs.Legal.{legal}
 use Rattle.satellite.specs.declared.Elements.{Elements}
 use Rattle.satellite.specs.declared.Method.the-variants as methods
 use Rattle.near_earth.specs.declared.parts.Initl.{Initl}
@@ -14,11 +17,17 @@ use Rattle.near_earth.specs.Finite.{finiteNear}
 use Rattle.opening.specs.declared.opening.Satellite.{Satellite}
 use Rattle.opening.specs.declared.opening.Refusal.the-variants as full-refusal
 use Rattle.opening.specs.declared.opening.Opening.the-variants as full
+use Rattle.opening.specs.Opening as O
 use Rattle.opening.specs.Opening.{newly, modelOf, finiteMethod, finiteRecord, checked, above}
 use Rattle.profile.specs.declared.opener.Refusal.the-variants as refusal
 use Rattle.profile.specs.declared.opener.Opening.{Opening}
 use Rattle.profile.specs.declared.opener.Opening.the-variants as opening
-use Rattle.profile.specs.Opening.{narrow, nearChecked}
+use Rattle.profile.specs.Opening.{narrow, narrowed, openReadOf, openOf, nearChecked}
+
+-- a legal record is opened without being judged again
+pub read-opens : (r : Record) → legal r ≡ true → openReadOf r ≡ openOf r
+unfolding openReadOf openOf O.openOf
+read-opens r h = sym (ap (λ (b : Bool). narrowed r (cond b (O.dated r (epochOf (r .year) (r .day))) (full.Refused full-refusal.Record))) h)
 
 module _ (el : Elements) (i : Initl) (t : Instant) (days : Float) where
   pub at-perigee : (gsto : Float) → lt (i .rp) (dec 1 0) ≡ true → opening.Refused refusal.Perigee ≡ narrow (deepSpace i) (above el i t days gsto)

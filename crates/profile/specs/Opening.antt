@@ -3,6 +3,7 @@ use Prim.Native.Nat.{ℕ}
 use mathlib.Core.Bool.{Bool, cond, _&&_}
 use Rattle.elementary.specs.Notation.{finite}
 use Rattle.instant.specs.declared.Instant.{Instant}
+use Rattle.instant.specs.Calendar.{epochOf}
 use Rattle.instant.specs.Greenwich.{greenwichOf}
 use Rattle.tle.specs.declared.Record.{Record}
 use Rattle.satellite.specs.declared.Elements.{Elements}
@@ -41,6 +42,10 @@ narrowed r o = narrow (isDeep (elementsOf r)) o
 
 unfoldable pub openOf : Record → Opening
 openOf r = narrowed r (O.openOf r)
+
+-- what is left of it for a record that is legal, as every record is that reading gives: `read-opens` of proofs/Narrow
+unfoldable pub openReadOf : Record → Opening
+openReadOf r = narrowed r (O.dated r (epochOf (r .year) (r .day)))
 
 -- what is left of `checked` of crate opening for a near-Earth satellite
 unfoldable pub nearChecked : NearEarth → Instant → Opening

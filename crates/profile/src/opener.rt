@@ -1,18 +1,14 @@
 // Opening a record: refusals 16, 7, 32 and 8, in this order.
 ghost use mathlib.Core.Path.{_≡_};
 ghost use mathlib.Core.Bool.{true};
-ghost use Rattle.elementary.specs.Notation.{finite};
 ghost use Rattle.instant.specs.Calendar.{inCalendar, epochOf};
 ghost use Rattle.instant.specs.Greenwich.{epochDaysOf, greenwichOf};
 ghost use Rattle.near_earth.specs.Initl.{deepSpace};
 ghost use Rattle.opening.specs.Opening as F;
 ghost use Rattle.profile.specs.Opening as O;
-use elementary::is_finite;
-use instant::Angle;
 use instant::Instant;
 use instant::Radians;
 use instant::epoch_instant;
-use instant::greenwich;
 use near_earth::finite::finite_near;
 use near_earth::initl::initl;
 use near_earth::initl::is_deep_space;
@@ -52,23 +48,13 @@ impl Refusal {
     }
 }
 
-// Whether the Greenwich angle is finite at an instant that is in the calendar: no other comes here.
-fn finite_angle(t: Instant) -> bool
-    requires { ⌜ inCalendar (t .0) ≡ true ⌝ }
-    ensures { λ r. ⌜ r ≡ finite (greenwichOf (t .0)) ⌝ }
-{
-    let angle = greenwich(t);
-    match angle {
-        Angle::Is(x) => is_finite(x.0),
-        Angle::Outside => false,
-    }
-}
-
+// Every number but the Greenwich angle, which at an instant of the calendar is finite (crate
+// finite_angle); no other instant comes here.
 fn checked(near: NearEarth, t: Instant) -> Opening
     requires { ⌜ inCalendar (t .0) ≡ true ⌝ }
     ensures { λ r. ⌜ r ≡ O.nearChecked near t ⌝ }
 {
-    if finite_near(near) & finite_angle(t) {
+    if finite_near(near) {
         return Opening::Opened(near, t);
     }
     Opening::Refused(Refusal::NotFinite)
@@ -106,11 +92,18 @@ fn dated(r: Record, epoch: instant::Epoch) -> Opening
     }
 }
 
+// Opens a record that reading gave: such a record is legal and need not be judged again.
+pub fn open_read(r: Record) -> Opening
+    ensures { λ y. ⌜ y ≡ O.openReadOf r ⌝ }
+{
+    dated(r, epoch_instant(r.year, r.day))
+}
+
 pub fn open(r: Record) -> Opening
     ensures { λ y. ⌜ y ≡ O.openOf r ⌝ }
 {
     if legal(r) {
-        return dated(r, epoch_instant(r.year, r.day));
+        return open_read(r);
     }
     Opening::Refused(Refusal::Record)
 }

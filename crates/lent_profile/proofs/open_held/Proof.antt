@@ -2,10 +2,12 @@ use denote.Ref.{now}
 use lib.ListN.{length}
 use mathlib.Core.Path.{sym, ap, _∙_}
 use Rattle.tle.proofs.Meaning.{passed-up, gone-on}
+use Rattle.tle.proofs.Accepted.{accepted-are-legal}
 use borrow.Author.Needs.{needs}
 use Rattle.answers.specs.Refusals.{refusalAnswer}
 use Rattle.answers.proofs.Columns.{read-in-bits}
-use Rattle.lent_profile.specs.Opening.{openAnswer, openNumbers, openMarks}
+use Rattle.profile.proofs.Narrow.{read-opens}
+use Rattle.lent_profile.specs.Opening.{openedAnswer, openedNumbers, openedMarks, openAnswer, openNumbers, openMarks}
 use Rattle.lent_profile.proofs.open_held.Statement.{statement}
 use Rattle.lent_profile.proofs.open_held.Tie as tie
 
@@ -31,9 +33,10 @@ returns-2 c =
     let o = f .before .before in
     let a = o .before .before .before .before .before .args in
     let e = sym (gone-on _ _ (o .read-form .ensures) (f .form .given .1) (k .read-meaning .ensures)) ∙ w .r .given .1 in
-    let g = t .open-record .ensures in (
-      g .0 ∙ sym (ap (λ z. openAnswer z (length (now (a .numbers))) (length (now (a .marks)))) e),
-      (g .1 .0 ∙ sym (ap (λ z. openNumbers z (now (a .numbers)) (now (a .marks))) e), g .1 .1 ∙ sym (ap (λ z. openMarks z (now (a .numbers)) (now (a .marks))) e)),
+    let g = t .open-record .ensures in
+    let o = read-opens _ (accepted-are-legal _ _ _ e) in (
+      g .0 ∙ ap (λ z. openedAnswer z (length (now (a .numbers))) (length (now (a .marks)))) o ∙ sym (ap (λ z. openAnswer z (length (now (a .numbers))) (length (now (a .marks)))) e),
+      (g .1 .0 ∙ ap (λ z. openedNumbers z (now (a .numbers)) (now (a .marks))) o ∙ sym (ap (λ z. openNumbers z (now (a .numbers)) (now (a .marks))) e), g .1 .1 ∙ ap (λ z. openedMarks z (now (a .numbers)) (now (a .marks))) o ∙ sym (ap (λ z. openMarks z (now (a .numbers)) (now (a .marks))) e)),
     )
 
 returns-3 : tie.Need-returns-3

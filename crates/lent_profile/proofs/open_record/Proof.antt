@@ -14,7 +14,7 @@ returns c =
     let w = t .before .before .before .before in
     let o = w .before .before in
     let a = o .before .before .before .args in
-    let e = sym (o .«open» .ensures) ∙ w .near .given .1 in
+    let e = sym (o .open-read .ensures) ∙ w .near .given .1 in
     let f = t .store-near .ensures in (
       c .answer .ensures ∙ ap (λ z. answer z 0 0 0) (f .0) ∙ sym (ap (λ z. openedAnswer z (length (now (a .numbers))) (length (now (a .marks)))) e),
       (f .1 .0 ∙ sym (ap (λ z. openedNumbers z (now (a .numbers)) (now (a .marks))) e), f .1 .1 ∙ sym (ap (λ z. openedMarks z (now (a .numbers)) (now (a .marks))) e)),
@@ -26,7 +26,7 @@ returns-2 c =
     let w = c .before .before in
     let o = w .before .before in
     let a = o .before .before .before .args in
-    let e = sym (o .«open» .ensures) ∙ w .why .given .1 in (
+    let e = sym (o .open-read .ensures) ∙ w .why .given .1 in (
       c .opening-answer .ensures ∙ sym (ap (λ z. openedAnswer z (length (now (a .numbers))) (length (now (a .marks)))) e),
       (sym (ap (λ z. openedNumbers z (now (a .numbers)) (now (a .marks))) e), sym (ap (λ z. openedMarks z (now (a .numbers)) (now (a .marks))) e)),
     )

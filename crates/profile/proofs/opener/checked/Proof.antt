@@ -1,3 +1,4 @@
+use Rattle.finite_angle.proofs.Angle.{finite-angle}
 use Rattle.profile.specs.Opening.{nearChecked}
 use borrow.Author.Needs.{needs}
 use Rattle.profile.proofs.opener.checked.Statement.{statement}
@@ -8,6 +9,6 @@ unfolding nearChecked
 checked-spec =
     tie.close
     (tie.spec
-    (λ c κs. search needs) (λ c κs. search needs)
-    (λ c. let f = c .before in simp (← f .before .finite-near .ensures, ← f .finite-angle .ensures, c .if1 .taken))
-    (λ c. let f = c .before in simp (← f .before .finite-near .ensures, ← f .finite-angle .ensures, c .if1 .left)))
+    (λ c κs. search needs)
+    (λ c. let f = c .before in simp (← f .finite-near .ensures, finite-angle _ (f .before .pre), c .if1 .taken))
+    (λ c. let f = c .before in simp (← f .finite-near .ensures, c .if1 .left)))
