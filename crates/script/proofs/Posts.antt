@@ -1,6 +1,6 @@
 -- What a script leaves, from what its requests do: demand 3 of the memory.
 use mathlib.Core.Path.{_≡_, refl, sym, ap, _∙_, subst}
-use mathlib.Core.Bool.{Bool, true, false, _&&_}
+use mathlib.Core.Bool.{Bool, true, false}
 use mathlib.Core.List.{List, [], _∷_, _++_, map}
 use Prim.Native.Nat.{ℕ, suc}
 use lib.ListN.{length, take, drop}
@@ -19,7 +19,7 @@ use Rattle.sequences.specs.Demand3.{Request, One, Many, Windows, Outcome, outco
 use Rattle.sequences.proofs.Demand3.{demand-3}
 use Rattle.script.specs.declared.Ran.{Ran}
 use Rattle.script.specs.declared.Ran.the-variants.{Done, Short, Unread, Refused}
-use Rattle.script_room.specs.Room.{roomFor, callsFor}
+use Rattle.script_room.specs.Room.{suffices}
 use Rattle.script_steps.specs.Steps.{written, laid, laidAll, script, rowsOf, windowsOf, firstsOf, lastsOf, stridesOf, foundOf, Left, Runs}
 use Rattle.script.specs.Script.{writtenAll, NoCall, TwoKinds, joined, Demanded, ranOf, Post}
 
@@ -122,13 +122,10 @@ satelliteOr s (pair.Unread why) = s
 satelliteOr s (pair.Refused why) = s
 
 module _ (line1 line2 ns : List ℕ) (ts : List ℤ) (ps : List Float) (qs : List ℕ) (a : List ℕ) (b : List Float) (c f l d e : List ℕ) where
-  abbrev Rows : Bool
-  Rows = roomFor ns (length ts) (length a) (length b) (length c) (length d)
+  abbrev All : Bool
+  All = suffices ns (length ts) (length a) (length b) (length c) (length d) (length ps) (length qs) (length e)
 
-  abbrev Calls : Bool
-  Calls = callsFor (length ns) (length ps) (length qs) (length e)
-
-  unrun-post : (r : Ran) → NotDone r → r ≡ ranOf (Rows && Calls) (openPairOf line1 line2) → Post line1 line2 ns ts ps qs a b c f l d e r a b c f l d e
+  unrun-post : (r : Ran) → NotDone r → r ≡ ranOf All (openPairOf line1 line2) → Post line1 line2 ns ts ps qs a b c f l d e r a b c f l d e
   unrun-post r n h = record {
     answer = h;
     unrun = λ u. (refl, refl, refl, refl, refl, refl, refl);
@@ -143,33 +140,27 @@ module _ (line1 line2 ns : List ℕ) (ts : List ℤ) (ps : List Float) (qs : Lis
   unfolding ranOf
   done-is s = refl
 
-  both : (p q : Bool) → p ≡ true → q ≡ true → p && q ≡ true
-  both p q h k = ap (λ u. u && q) h ∙ k
+  pub post-short : All ≡ false → Post line1 line2 ns ts ps qs a b c f l d e Short a b c f l d e
+  post-short h = unrun-post Short tt (short-is (openPairOf line1 line2) ∙ ap (λ u. ranOf u (openPairOf line1 line2)) (sym h))
 
-  pub post-short : Rows ≡ false → Post line1 line2 ns ts ps qs a b c f l d e Short a b c f l d e
-  post-short h = unrun-post Short tt (short-is (openPairOf line1 line2) ∙ ap (λ u. ranOf (u && Calls) (openPairOf line1 line2)) (sym h))
+  answer-of : (r : Ran) (o : PairOpening) → r ≡ ranOf true o → All ≡ true → openPairOf line1 line2 ≡ o → r ≡ ranOf All (openPairOf line1 line2)
+  answer-of r o h x k = h ∙ ap (ranOf true) (sym k) ∙ ap (λ u. ranOf u (openPairOf line1 line2)) (sym x)
 
-  pub post-few : Rows ≡ true → Calls ≡ false → Post line1 line2 ns ts ps qs a b c f l d e Short a b c f l d e
-  post-few h k = unrun-post Short tt (short-is (openPairOf line1 line2) ∙ ap (λ u. ranOf u (openPairOf line1 line2)) (sym (ap (λ u. u && Calls) h ∙ k)))
-
-  answer-of : (r : Ran) (o : PairOpening) → r ≡ ranOf true o → Rows ≡ true → Calls ≡ true → openPairOf line1 line2 ≡ o → r ≡ ranOf (Rows && Calls) (openPairOf line1 line2)
-  answer-of r o h x y k = h ∙ ap (ranOf true) (sym k) ∙ ap (λ u. ranOf u (openPairOf line1 line2)) (sym (both Rows Calls x y))
-
-  pub post-closed : (r : Ran) (o : PairOpening) → NotDone r → Rows ≡ true → Calls ≡ true → openPairOf line1 line2 ≡ o → r ≡ ranOf true o → Post line1 line2 ns ts ps qs a b c f l d e r a b c f l d e
-  post-closed r o n x y k h = unrun-post r n (answer-of r o h x y k)
+  pub post-closed : (r : Ran) (o : PairOpening) → NotDone r → All ≡ true → openPairOf line1 line2 ≡ o → r ≡ ranOf true o → Post line1 line2 ns ts ps qs a b c f l d e r a b c f l d e
+  post-closed r o n x k h = unrun-post r n (answer-of r o h x k)
 
   -- what `run_requests` says of a script that has room
-  pub left-of : (s : Satellite) (r : Bool) (a′ : List ℕ) (b′ : List Float) (c′ f′ l′ d′ e′ : List ℕ) → Rows ≡ true → Calls ≡ true → Runs s ns ts ps qs a b c f l d e r a′ b′ c′ f′ l′ d′ e′
+  pub left-of : (s : Satellite) (r : Bool) (a′ : List ℕ) (b′ : List Float) (c′ f′ l′ d′ e′ : List ℕ) → All ≡ true → Runs s ns ts ps qs a b c f l d e r a′ b′ c′ f′ l′ d′ e′
       → Left s (script s ns 0 ts ps qs (length a) (length b) (length c) (length f) (length l)) a b c f l d e a′ b′ c′ f′ l′ d′ e′
-  left-of s r a′ b′ c′ f′ l′ d′ e′ x y p = p .ran (p .answer ∙ both Rows Calls x y)
+  left-of s r a′ b′ c′ f′ l′ d′ e′ x p = p .ran (p .answer ∙ x)
 
-  pub post-done : (s : Satellite) (a′ : List ℕ) (b′ : List Float) (c′ f′ l′ d′ e′ : List ℕ) → Rows ≡ true → Calls ≡ true → openPairOf line1 line2 ≡ pair.Opened s
+  pub post-done : (s : Satellite) (a′ : List ℕ) (b′ : List Float) (c′ f′ l′ d′ e′ : List ℕ) → All ≡ true → openPairOf line1 line2 ≡ pair.Opened s
       → Left s (script s ns 0 ts ps qs (length a) (length b) (length c) (length f) (length l)) a b c f l d e a′ b′ c′ f′ l′ d′ e′ → Post line1 line2 ns ts ps qs a b c f l d e Done a′ b′ c′ f′ l′ d′ e′
-  post-done s a′ b′ c′ f′ l′ d′ e′ x y k z =
+  post-done s a′ b′ c′ f′ l′ d′ e′ x k z =
       let m = made-of line1 line2 s k in
       let rs = script s ns 0 ts ps qs (length a) (length b) (length c) (length f) (length l) in
       record {
-        answer = answer-of Done (pair.Opened s) (done-is s) x y k;
+        answer = answer-of Done (pair.Opened s) (done-is s) x k;
         unrun = λ h. absurd (h refl);
         ran = λ t o h.
             subst (λ u. Demanded u (script u ns 0 ts ps qs (length a) (length b) (length c) (length f) (length l)) a b c f l d e a′ b′ c′ f′ l′ d′ e′) (ap (satelliteOr s) (sym k ∙ o))

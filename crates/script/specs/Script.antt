@@ -1,7 +1,7 @@
 -- A whole script of requests run from two lines, and what demand 3 says of the memory that it leaves: specs/Demand3 of `sequences`, of running code. Definitions only.
 use Prim.Native.Nat.{ℕ}
 use mathlib.Core.Path.{_≡_}
-use mathlib.Core.Bool.{Bool, true, false, _&&_}
+use mathlib.Core.Bool.{Bool, true, false}
 use mathlib.Core.List.{List, [], _∷_, _++_, map}
 use lib.ListN.{length, take}
 use lib.IntN.{ℤ}
@@ -14,7 +14,7 @@ use Rattle.opening.specs.declared.opening.PairOpening.{PairOpening}
 use Rattle.opening.specs.declared.opening.PairOpening.the-variants as pair
 use Rattle.tle.specs.Refusals.{Values, nothing, numberOf, valuesOf}
 use Rattle.opening.specs.Opening.{number, openPairOf, pairNumber, pairValues}
-use Rattle.script_room.specs.Room.{roomFor, callsFor}
+use Rattle.script_room.specs.Room.{suffices}
 use Rattle.script.specs.declared.Ran.{Ran}
 use Rattle.script.specs.declared.Ran.the-variants.{Done, Short, Unread, Refused}
 use Rattle.requests.specs.Lists.{refusalsOf, statesOf, roundsOf, over}
@@ -80,6 +80,6 @@ AsOpening = (o : PairOpening) → (ranNumber (ranOf true o) ≡ pairNumber o) ×
 
 -- the contract of `run_script`: the answer; nothing written unless it is `Done`; and then demand 3 of the memory, for the satellite that the lines open to
 pub record Post (line1 line2 ns : List ℕ) (ts : List ℤ) (ps : List Float) (qs : List ℕ) (a : List ℕ) (b : List Float) (c f l d e : List ℕ) (r : Ran) (a′ : List ℕ) (b′ : List Float) (c′ f′ l′ d′ e′ : List ℕ) : Type 0 where
-  pub answer : r ≡ ranOf (roomFor ns (length ts) (length a) (length b) (length c) (length d) && callsFor (length ns) (length ps) (length qs) (length e)) (openPairOf line1 line2)
+  pub answer : r ≡ ranOf (suffices ns (length ts) (length a) (length b) (length c) (length d) (length ps) (length qs) (length e)) (openPairOf line1 line2)
   pub unrun : (r ≡ Done → ⊥) → (a′ ≡ a) × (b′ ≡ b) × (c′ ≡ c) × (f′ ≡ f) × (l′ ≡ l) × (d′ ≡ d) × (e′ ≡ e)
   pub ran : (s : Satellite) → openPairOf line1 line2 ≡ pair.Opened s → r ≡ Done → Demanded s (script s ns 0 ts ps qs (length a) (length b) (length c) (length f) (length l)) a b c f l d e a′ b′ c′ f′ l′ d′ e′

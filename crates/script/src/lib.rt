@@ -3,8 +3,7 @@ ghost use mathlib.Core.Path.{_≡_};
 ghost use Rattle.script.specs.Script as S;
 use opening::opening::PairOpening;
 use opening::opening::open_pair;
-use script_room::has_calls;
-use script_room::has_room;
+use script_room::suffices;
 use script_steps::run_requests;
 
 // What became of a script: run; not begun, for want of times or of room (17); or not begun, since the
@@ -49,17 +48,17 @@ pub fn run_script(
 ) -> Ran
     ensures { λ r. ⌜ S.Post (now (line1 .entry)) (now (line2 .entry)) (now (lengths .entry)) (now (times .entry)) (now (stations .entry)) (now (spans .entry)) (now (refusals .entry)) (now (states .entry)) (now (rounds .entry)) (now (firsts .entry)) (now (lasts .entry)) (now (strides .entry)) (now (found .entry)) r (now (refusals .exit)) (now (states .exit)) (now (rounds .exit)) (now (firsts .exit)) (now (lasts .exit)) (now (strides .exit)) (now (found .exit)) ⌝ }
 {
-    if !has_room(
+    if !suffices(
         lengths,
         times.len(),
         refusals.len(),
         states.len(),
         rounds.len(),
         strides.len(),
+        stations.len(),
+        spans.len(),
+        found.len(),
     ) {
-        return Ran::Short;
-    }
-    if !has_calls(lengths.len(), stations.len(), spans.len(), found.len()) {
         return Ran::Short;
     }
     match open_pair(line1, line2) {

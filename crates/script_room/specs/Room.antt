@@ -30,6 +30,10 @@ roomFor ns t a b c d = leb (needed ns) t && roomy ns a && roomy ns (b / 6) && ro
 unfoldable pub callsFor : ℕ → ℕ → ℕ → ℕ → Bool
 callsFor n p q e = leb n (p / 3) && leb n (q / 3) && leb n e
 
+-- whether a script can be run: times, rooms, and what its calls ask
+unfoldable pub suffices : List ℕ → ℕ → ℕ → ℕ → ℕ → ℕ → ℕ → ℕ → ℕ → Bool
+suffices ns t a b c d p q e = roomFor ns t a b c d && callsFor (length ns) p q e
+
 -- the rows that a request must have room for
 abbrev pub due : ℕ → ℕ
 due zero = 1

@@ -64,7 +64,7 @@ fn roomy(lengths: &[usize], room: usize) -> bool
 
 // Whether the times suffice, and the rooms for the row of each single request and for the strides of
 // every request.
-pub fn has_room(lengths: &[usize], t: usize, a: usize, b: usize, c: usize, d: usize) -> bool
+fn has_room(lengths: &[usize], t: usize, a: usize, b: usize, c: usize, d: usize) -> bool
     ensures { λ r. ⌜ r ≡ R.roomFor (now (lengths .entry)) t a b c d ⌝ }
 {
     if !fits(lengths, t) {
@@ -83,8 +83,29 @@ pub fn has_room(lengths: &[usize], t: usize, a: usize, b: usize, c: usize, d: us
 }
 
 // Whether n requests have their stations, their samples, and places for how many windows they gave.
-pub fn has_calls(n: usize, p: usize, q: usize, e: usize) -> bool
+fn has_calls(n: usize, p: usize, q: usize, e: usize) -> bool
     ensures { λ r. ⌜ r ≡ R.callsFor n p q e ⌝ }
 {
     (n <= p / 3) & (n <= q / 3) & (n <= e)
+}
+
+// Whether a script of these lengths can be run: t times, rooms of a, b and c for its rows, d for strides
+// and e for how many windows, p and q numbers of its calls.
+pub fn suffices(
+    lengths: &[usize],
+    t: usize,
+    a: usize,
+    b: usize,
+    c: usize,
+    d: usize,
+    p: usize,
+    q: usize,
+    e: usize,
+) -> bool
+    ensures { λ r. ⌜ r ≡ R.suffices (now (lengths .entry)) t a b c d p q e ⌝ }
+{
+    if has_room(lengths, t, a, b, c, d) {
+        return has_calls(lengths.len(), p, q, e);
+    }
+    false
 }

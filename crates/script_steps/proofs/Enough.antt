@@ -9,7 +9,7 @@ use lib.IntN.{ℤ}
 use lib.Ieee.{Float}
 use borrow.Author.Tests.{leb-true}
 use Rattle.opening.specs.declared.opening.Satellite.{Satellite}
-use Rattle.script_room.specs.Room.{needed, roomy, roomFor, callsFor}
+use Rattle.script_room.specs.Room.{needed, roomy, roomFor, callsFor, suffices}
 use Rattle.script_steps.specs.Steps.{script, Left, Runs}
 
 absurd : {B : Type 0} → ⊥ → B
@@ -26,23 +26,20 @@ module _ (ns : List ℕ) (ts : List ℤ) (ps : List Float) (qs a : List ℕ) (b 
   abbrev Calls : Bool
   Calls = callsFor (length ns) (length ps) (length qs) (length e)
 
-  unrun : (s : Satellite) → false ≡ Rows && Calls → Runs s ns ts ps qs a b c f l d e false a b c f l d e
-  unrun s h = record {
-    answer = h;
+  abbrev All : Bool
+  All = suffices ns (length ts) (length a) (length b) (length c) (length d) (length ps) (length qs) (length e)
+
+  pub runs-short : (s : Satellite) → All ≡ false → Runs s ns ts ps qs a b c f l d e false a b c f l d e
+  runs-short s h = record {
+    answer = sym h;
     unrun = λ u. (refl, refl, refl, refl, refl, refl, refl);
     ran = λ u. absurd (subst No u tt);
   }
 
-  pub runs-short : (s : Satellite) → Rows ≡ false → Runs s ns ts ps qs a b c f l d e false a b c f l d e
-  runs-short s h = unrun s (ap (λ u. u && Calls) (sym h))
-
-  pub runs-few : (s : Satellite) → Rows ≡ true → Calls ≡ false → Runs s ns ts ps qs a b c f l d e false a b c f l d e
-  runs-few s h k = unrun s (sym (ap (λ u. u && Calls) h ∙ k))
-
-  pub runs-done : (s : Satellite) (a′ : List ℕ) (b′ : List Float) (c′ f′ l′ d′ e′ : List ℕ) → Rows ≡ true → Calls ≡ true
+  pub runs-done : (s : Satellite) (a′ : List ℕ) (b′ : List Float) (c′ f′ l′ d′ e′ : List ℕ) → All ≡ true
       → Left s (script s ns 0 ts ps qs (length a) (length b) (length c) (length f) (length l)) a b c f l d e a′ b′ c′ f′ l′ d′ e′ → Runs s ns ts ps qs a b c f l d e true a′ b′ c′ f′ l′ d′ e′
-  runs-done s a′ b′ c′ f′ l′ d′ e′ h k x = record {
-    answer = sym (ap (λ u. u && Calls) h ∙ k);
+  runs-done s a′ b′ c′ f′ l′ d′ e′ h x = record {
+    answer = sym h;
     unrun = λ u. absurd (subst No (sym u) tt);
     ran = λ u. x;
   }
@@ -89,8 +86,9 @@ module _ (ns : List ℕ) (ts : List ℤ) (ps : List Float) (qs a : List ℕ) (b 
         (leb-true (length ns) (length qs / 3) (and-right p1 p2 h2), leb-true (length ns) (length e) (and-right (p1 && p2) p3 h)),
       )
 
-  pub enough : Rows ≡ true → Calls ≡ true
+  pub enough : All ≡ true
       → (needed ns ≤ length ts) × ((roomy ns (length a) ≡ true) × ((roomy ns (length b / 6) ≡ true) × ((roomy ns (length c) ≡ true) × ((length ns ≤ length d) × ((length ns ≤ length ps / 3) × ((length ns ≤ length qs / 3) × (length ns ≤ length e)))))))
-  enough x y =
-      let r = enough-rows x in
-      (r .0, (r .1 .0, (r .1 .1 .0, (r .1 .1 .1 .0, (r .1 .1 .1 .1, enough-calls y)))))
+  unfolding suffices
+  enough h =
+      let r = enough-rows (and-left Rows Calls h) in
+      (r .0, (r .1 .0, (r .1 .1 .0, (r .1 .1 .1 .0, (r .1 .1 .1 .1, enough-calls (and-right Rows Calls h))))))

@@ -1,7 +1,7 @@
 -- The requests of a script in lent memory, and what they leave there. Definitions only.
 use Prim.Native.Nat.{ℕ, zero, suc, _+_, _-_, _*_}
 use mathlib.Core.Path.{_≡_}
-use mathlib.Core.Bool.{Bool, true, false, _&&_}
+use mathlib.Core.Bool.{Bool, true, false}
 use mathlib.Core.List.{List, [], _∷_, _++_, map}
 use lib.ListN.{length, take, drop, getD}
 use lib.IntN.{ℤ, pos}
@@ -13,7 +13,7 @@ use Rattle.runs.specs.Runs.{Window}
 use Rattle.windows.specs.Windows.{Call}
 use Rattle.windows.specs.Answer.{callOf}
 use Rattle.sequences.specs.Demand3.{Request, One, Many, Windows, Outcome, outcome}
-use Rattle.script_room.specs.Room.{taken, roomFor, callsFor}
+use Rattle.script_room.specs.Room.{taken, suffices}
 use Rattle.script_steps.specs.declared.Asked.{Asked}
 
 -- ── the script ──
@@ -127,10 +127,7 @@ pub record Left (s : Satellite) (rs : List Request) (a : List ℕ) (b : List Flo
   pub found : e′ ≡ over (foundOf (laidAll s rs)) e
 
 -- the contract of `run_requests`: whether times and rooms suffice; nothing written unless they do
-abbrev pub suffices : List ℕ → List ℤ → List Float → List ℕ → List ℕ → List Float → List ℕ → List ℕ → List ℕ → Bool
-suffices ns ts ps qs a b c d e = roomFor ns (length ts) (length a) (length b) (length c) (length d) && callsFor (length ns) (length ps) (length qs) (length e)
-
 pub record Runs (s : Satellite) (ns : List ℕ) (ts : List ℤ) (ps : List Float) (qs a : List ℕ) (b : List Float) (c f l d e : List ℕ) (r : Bool) (a′ : List ℕ) (b′ : List Float) (c′ f′ l′ d′ e′ : List ℕ) : Type 0 where
-  pub answer : r ≡ suffices ns ts ps qs a b c d e
+  pub answer : r ≡ suffices ns (length ts) (length a) (length b) (length c) (length d) (length ps) (length qs) (length e)
   pub unrun : r ≡ false → (a′ ≡ a) × (b′ ≡ b) × (c′ ≡ c) × (f′ ≡ f) × (l′ ≡ l) × (d′ ≡ d) × (e′ ≡ e)
   pub ran : r ≡ true → Left s (script s ns 0 ts ps qs (length a) (length b) (length c) (length f) (length l)) a b c f l d e a′ b′ c′ f′ l′ d′ e′

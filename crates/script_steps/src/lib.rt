@@ -12,8 +12,7 @@ use instant::Instant;
 use instant::Strides;
 use opening::opening::Satellite;
 use requests::request_list;
-use script_room::has_calls;
-use script_room::has_room;
+use script_room::suffices;
 use script_room::taken;
 use windows::Seconds;
 use windows::windows;
@@ -223,17 +222,17 @@ pub fn run_requests(
 ) -> bool
     ensures { λ r. ⌜ T.Runs first (now (lengths .entry)) (now (times .entry)) (now (stations .entry)) (now (spans .entry)) (now (refusals .entry)) (now (states .entry)) (now (rounds .entry)) (now (firsts .entry)) (now (lasts .entry)) (now (strides .entry)) (now (found .entry)) r (now (refusals .exit)) (now (states .exit)) (now (rounds .exit)) (now (firsts .exit)) (now (lasts .exit)) (now (strides .exit)) (now (found .exit)) ⌝ }
 {
-    if !has_room(
+    if !suffices(
         lengths,
         times.len(),
         refusals.len(),
         states.len(),
         rounds.len(),
         strides.len(),
+        stations.len(),
+        spans.len(),
+        found.len(),
     ) {
-        return false;
-    }
-    if !has_calls(lengths.len(), stations.len(), spans.len(), found.len()) {
         return false;
     }
     run_all(
