@@ -2,7 +2,8 @@
 // suffice for all of them.
 ghost use mathlib.Core.Path.{_≡_};
 ghost use Prim.Native.Nat.{_-_};
-ghost use lib.Dec.{leb};
+ghost use mathlib.Core.Bool.{cond};
+ghost use lib.Dec.{eqb, leb};
 ghost use Rattle.script_room.specs.Room as R;
 
 // The times that a request takes.
@@ -16,6 +17,16 @@ pub fn taken(n: usize) -> usize
         return 0;
     }
     n - 2
+}
+
+// The rows of a list of n times: none where it is refused.
+pub fn added(refusal: u8, n: usize) -> usize
+    ensures { λ r. ⌜ r ≡ cond (eqb refusal 0) n 0 ⌝ }
+{
+    if refusal == 0 {
+        return n;
+    }
+    0
 }
 
 // What is left of `room` after n, or nothing.

@@ -2,8 +2,7 @@
 // and calls for windows.
 ghost use mathlib.Core.Path.{_≡_};
 ghost use Prim.Native.Nat.{_+_, _-_, _*_, _/_, _≤_};
-ghost use mathlib.Core.Bool.{true, cond};
-ghost use lib.Dec.{eqb};
+ghost use mathlib.Core.Bool.{true};
 ghost use lib.ListN.{length};
 ghost use Rattle.sequences.specs.Demand3 as D;
 ghost use Rattle.script_room.specs.Room as R;
@@ -12,6 +11,7 @@ use instant::Instant;
 use instant::Strides;
 use opening::opening::Satellite;
 use requests::request_list;
+use script_room::added;
 use script_room::suffices;
 use script_room::taken;
 use windows::Seconds;
@@ -21,16 +21,6 @@ struct Stepped {
     satellite: Satellite,
     strides: Strides,
     rows: usize,
-}
-
-// The rows of a list of n times: none where it is refused.
-fn added(refusal: u8, n: usize) -> usize
-    ensures { λ r. ⌜ r ≡ cond (eqb refusal 0) n 0 ⌝ }
-{
-    if refusal == 0 {
-        return n;
-    }
-    0
 }
 
 // The next request: its times are put as one list, which is lent what is left of the rooms. One time is

@@ -1,7 +1,7 @@
 use borrow.Author.Needs.{needs}
 use borrow.Author.Tests.{eq-eqb, ne-eqb}
-use Rattle.script_steps.proofs.added.Statement.{statement}
-use Rattle.script_steps.proofs.added.Tie as tie
+use Rattle.script_room.proofs.added.Statement.{statement}
+use Rattle.script_room.proofs.added.Tie as tie
 
 returns : tie.Need-returns
 returns c = rw (eq-eqb (c .before .args .refusal) 0 (c .if1 .taken))
