@@ -1,0 +1,4 @@
+pub mod Fixed
+pub mod Parts
+pub mod Claims
+pub mod Examples
