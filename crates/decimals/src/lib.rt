@@ -4,7 +4,7 @@
 ghost use mathlib.Core.Path.{_≡_};
 ghost use mathlib.Core.Bool.{true, _&&_};
 ghost use mathlib.Core.List.{_∷_};
-ghost use Prim.Native.Nat.{_+_, _-_, _*_, _%_, _^_, _≤_, _<_};
+ghost use Prim.Native.Nat.{_+_, _-_, _*_, _%_, _^_, _≤_, _<_, min};
 ghost use lib.Dec.{ltb};
 ghost use lib.Ieee.{lt};
 ghost use Rattle.floats.specs.Notation.{dec};
@@ -151,6 +151,16 @@ fn put_places(out: &mut [u8], at: usize, n: u64, width: u64) -> usize
     let digits = nine_digits(n);
     let from = (9 - width) as usize;
     put_bytes(out, at, &digits[from..9])
+}
+
+// The last places of a whole number with leading zeros, nine at most.
+pub fn put_last_places(out: &mut [u8], at: usize, n: u64, width: u64) -> usize
+    ensures { λ r. ⌜ Put (now (out .entry)) at (places 10 (min width 9) n) (now (out .exit)) r ⌝ }
+{
+    if width <= 9 {
+        return put_places(out, at, n, width);
+    }
+    put_places(out, at, n, 9)
 }
 
 // The whole part, a point and the places.

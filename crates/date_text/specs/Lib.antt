@@ -1,0 +1,3 @@
+pub mod Date
+pub mod Claims
+pub mod Examples
