@@ -1,0 +1,4 @@
+pub mod Age
+pub mod Text
+pub mod Claims
+pub mod Examples
