@@ -147,33 +147,43 @@ def explained(one, two):
 
 # ------------------------------------------------------------------ a text
 
-def explain(text):
-    told, waits = [], None
-    pairs = well = 0
-    lines = lines_of(text)
+def walk(text):
+    """The pairs of a text, each with the numbers of its lines, and what is said of lines in none."""
+    waits = None
 
     def alone():
-        if waits:
-            told.append(f"line {waits[0]} is a line 1 without a line 2 after it:\n" + shown(waits[1]))
+        return f"line {waits[0]} is a line 1 without a line 2 after it:\n" + shown(waits[1])
 
-    for number, line in enumerate(lines, 1):
+    for number, line in enumerate(lines_of(text), 1):
         if len(line) > ROOM:
-            told.append(f"line {number} is too long to be held; it begins:\n" + shown(line))
+            yield f"line {number} is too long to be held; it begins:\n" + shown(line)
         elif not line.strip(b" \t\r"):
-            told.append(f"line {number} is blank.\n")
+            yield f"line {number} is blank.\n"
         elif line[:2] == b"1 " or line[:2] != b"2 " and len(line) == 69 and not waits:
-            alone()
+            if waits:
+                yield alone()
             waits = number, line
         elif waits:
-            sentence = explained(waits[1], line)
-            told.append(f"lines {waits[0]} and {number}: {sentence}")
-            pairs, well, waits = pairs + 1, well + sentence.startswith("well"), None
+            yield waits[0], number, waits[1], line
+            waits = None
         elif line[:2] == b"2 ":
-            told.append(f"line {number} is a line 2 without a line 1 before it:\n" + shown(line))
+            yield f"line {number} is a line 2 without a line 1 before it:\n" + shown(line)
         else:
-            told.append(f"line {number} is no line of a pair and is taken for a name:\n" + shown(line))
-    alone()
-    return "".join(told) + f"lines {len(lines)}, pairs {pairs}, well {well}\n"
+            yield f"line {number} is no line of a pair and is taken for a name:\n" + shown(line)
+    if waits:
+        yield alone()
+
+
+def explain(text):
+    told, pairs, well = [], 0, 0
+    for step in walk(text):
+        if isinstance(step, tuple):
+            first, second, one, two = step
+            sentence = explained(one, two)
+            step = f"lines {first} and {second}: {sentence}"
+            pairs, well = pairs + 1, well + sentence.startswith("well")
+        told.append(step)
+    return "".join(told) + f"lines {len(lines_of(text))}, pairs {pairs}, well {well}\n"
 
 
 def texts():
@@ -212,4 +222,5 @@ def main():
         print(len(lines_of(text)), "lines")
 
 
-main()
+if __name__ == "__main__":
+    main()
