@@ -14,10 +14,11 @@ worked out from document 002's first steps, as in report_texts.py.
 
 import argparse
 import sys
+from datetime import datetime, timedelta
 from pathlib import Path
 
 sys.dont_write_bytecode = True
-from report_texts import DEEP, LAST, LOW, NEAR, OPPOSITE, REFUSED, kind, lines_of, pair, recovered
+from report_texts import DEEP, LAST, LOW, NEAR, OPPOSITE, RADIUS, REFUSED, kind, lines_of, pair, recovered
 from tle_pairs import LAYOUT, checksum, full_year, judge, line1, put, whole
 
 ROOM = 4096     # a longer line is not held
@@ -114,15 +115,29 @@ def resonance(two):
     return ""
 
 
+def depth(two):
+    """How far below the ground the perigee lies, to the nearest tenth: no pair here lies near a half."""
+    _, axis = recovered(two)
+    km = (1 - axis * (1 - int(two[26:33]) / 1e7)) * RADIUS
+    assert abs(km * 10 % 1 - 0.5) > 1e-6
+    return f"{km:.1f}"
+
+
+def date_of(one):
+    """The epoch's date and time of day: one of the day's last digit is 864 microseconds."""
+    start = datetime(full_year(int(one[18:20])), 1, 1)
+    return start + timedelta(int(one[20:23]) - 1, microseconds=int(one[24:32]) * 864)
+
+
 def opened(one, two):
     if kind(two) == "unopened":
         if two[8:16] == b"180.0000":
             return "refusal 8: opening it gives a number that is not finite.\n"
-        return "refusal 7: at the epoch the perigee lies below the ground.\n"
+        return f"refusal 7: at the epoch the perigee lies {depth(two)} km below the ground.\n"
     first = "0123456789ABCDEFGHJKLMNPQRSTUVWXYZ".index(chr(one[2]))
     seconds = 86400 * 10 ** 8 // whole(two, 53, 63)
     sort = "near Earth" if kind(two) == "near" else "deep space" + resonance(two)
-    return (f"well: satellite {first * 10000 + int(one[3:7])}, epoch day {one[20:32].decode()} of {full_year(int(one[18:20]))}, "
+    return (f"well: satellite {first * 10000 + int(one[3:7])}, epoch {date_of(one):%Y-%m-%d %H:%M:%S.%f} (day {one[20:32].decode()}), "
             f"period {seconds // 60} min {seconds % 60} s, {sort}.\n")
 
 

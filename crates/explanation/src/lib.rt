@@ -2,16 +2,21 @@
 ghost use mathlib.Core.Path.{_≡_};
 ghost use Rattle.text.specs.Output.{Put};
 ghost use Rattle.tle.specs.Read.{readOf};
-ghost use Rattle.explanation.specs.Explained.{periodOf, periodText, epochText, wellText, recordText, openedText, readingText, opens, isWell};
+ghost use Rattle.explanation.specs.Explained.{periodOf, periodText, dateOfEpoch, epochText, wellText, perigeeText, progressText, recordText, openedText, readingText, opens, isWell};
+use date_text::put_instant;
+use decimals::put_fixed;
+use instant::Epoch;
 use marked_line::put_part;
 use reading_faults::put_fault;
 use satellite_kind::Kind;
 use satellite_kind::kind_of;
+use satellite_kind::perigee_depth;
 use text::put_bytes;
 use text::put_decimal;
 use tle::Form;
 use tle::Reading;
 use tle::Record;
+use tle::epoch;
 use tle::read_form;
 use tle::read_meaning;
 
@@ -36,14 +41,25 @@ fn put_period(out: &mut [u8], at: usize, motion: u64) -> usize
     put_bytes(out, p, b" s")
 }
 
-// The day as columns 21 to 32 of line 1 have it, and the year.
-fn put_epoch(out: &mut [u8], at: usize, year: u64, line1: &[u8]) -> usize
-    ensures { λ r. ⌜ Put (now (out .entry)) at (epochText year (now (line1 .entry))) (now (out .exit)) r ⌝ }
+fn put_date(out: &mut [u8], at: usize, epoch: Epoch) -> usize
+    ensures { λ r. ⌜ Put (now (out .entry)) at (dateOfEpoch epoch) (now (out .exit)) r ⌝ }
 {
-    let p = put_bytes(out, at, b", epoch day ");
+    match epoch {
+        Epoch::At(t) => put_instant(out, at, t),
+        Epoch::Outside => put_bytes(out, at, b"- -"),
+    }
+}
+
+// The epoch's date and time of day, and the day as columns 21 to 32 of line 1 have it.
+fn put_epoch(out: &mut [u8], at: usize, r: Record, line1: &[u8]) -> usize
+    ensures { λ n. ⌜ Put (now (out .entry)) at (epochText r (now (line1 .entry))) (now (out .exit)) n ⌝ }
+{
+    let e = epoch(r);
+    let p = put_bytes(out, at, b", epoch ");
+    let p = put_date(out, p, e);
+    let p = put_bytes(out, p, b" (day ");
     let p = put_part(out, p, line1, 20, 12);
-    let p = put_bytes(out, p, b" of ");
-    put_decimal(out, p, year)
+    put_bytes(out, p, b")")
 }
 
 fn put_well(out: &mut [u8], at: usize, kind: &[u8], r: Record, line1: &[u8]) -> usize
@@ -51,9 +67,19 @@ fn put_well(out: &mut [u8], at: usize, kind: &[u8], r: Record, line1: &[u8]) -> 
 {
     let p = put_bytes(out, at, b"well: satellite ");
     let p = put_decimal(out, p, r.number);
-    let p = put_epoch(out, p, r.year, line1);
+    let p = put_epoch(out, p, r, line1);
     let p = put_period(out, p, r.motion);
     put_bytes(out, p, kind)
+}
+
+// Refusal 7, with how deep the perigee lies.
+fn put_perigee(out: &mut [u8], at: usize, r: Record) -> usize
+    ensures { λ n. ⌜ Put (now (out .entry)) at (perigeeText r) (now (out .exit)) n ⌝ }
+{
+    let depth = perigee_depth(r);
+    let p = put_bytes(out, at, b"refusal 7: at the epoch the perigee lies ");
+    let p = put_fixed(out, p, depth, 1);
+    put_bytes(out, p, b" km below the ground.\n")
 }
 
 // A record in its ranges: what opening it comes to.
@@ -65,11 +91,7 @@ fn put_record(out: &mut [u8], at: usize, kind: Kind, r: Record, line1: &[u8]) ->
         Kind::DeepSpace => put_well(out, at, b", deep space.\n", r, line1),
         Kind::OneDay => put_well(out, at, b", deep space, one-day resonance.\n", r, line1),
         Kind::HalfDay => put_well(out, at, b", deep space, half-day resonance.\n", r, line1),
-        Kind::Perigee => put_bytes(
-            out,
-            at,
-            b"refusal 7: at the epoch the perigee lies below the ground.\n",
-        ),
+        Kind::Perigee => put_perigee(out, at, r),
         Kind::NotFinite => put_bytes(
             out,
             at,
@@ -138,4 +160,13 @@ pub fn is_well(line1: &[u8], line2: &[u8]) -> bool
         return well(Reading::Refused(form.refusal()));
     };
     well(read_meaning(fields))
+}
+
+// How far a long text is.
+pub fn put_progress(out: &mut [u8], at: usize, pairs: u64) -> usize
+    ensures { λ n. ⌜ Put (now (out .entry)) at (progressText pairs) (now (out .exit)) n ⌝ }
+{
+    let p = put_bytes(out, at, b"progress: ");
+    let p = put_decimal(out, p, pairs);
+    put_bytes(out, p, b" pairs\n")
 }

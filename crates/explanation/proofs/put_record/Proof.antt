@@ -42,9 +42,9 @@ returns-5 : tie.Need-returns-5
 unfolding recordText
 returns-5 c =
     let p = c .before .before in
-    let g = p .before .before .before .enum-told5 .given .1 in
-    let a = p .before .before .before .before .before .before .before .args in
-    same (sym (ap (λ w. recordText w (a .r) (now (a .line1))) g)) (p .put-bytes .ensures)
+    let g = p .before .before .enum-told5 .given .1 in
+    let a = p .before .before .before .before .before .before .args in
+    same (sym (ap (λ w. recordText w (a .r) (now (a .line1))) g)) (p .put-perigee .ensures)
 
 returns-6 : tie.Need-returns-6
 unfolding recordText
@@ -52,7 +52,7 @@ returns-6 c =
     let p = c .before .before in
     let g = p .before .before .before .enum-told6 .given .1 in
     let a = p .before .before .before .before .before .before .before .args in
-    same (sym (ap (λ w. recordText w (a .r) (now (a .line1))) g)) (p .put-bytes2 .ensures)
+    same (sym (ap (λ w. recordText w (a .r) (now (a .line1))) g)) (p .put-bytes .ensures)
 
 returns-7 : tie.Need-returns-7
 unfolding recordText
@@ -60,15 +60,10 @@ returns-7 c =
     let p = c .before .before in
     let g = p .before .before .before .enum-told7 .given .1 in
     let a = p .before .before .before .before .before .before .before .args in
-    same (sym (ap (λ w. recordText w (a .r) (now (a .line1))) g)) (p .put-bytes3 .ensures)
+    same (sym (ap (λ w. recordText w (a .r) (now (a .line1))) g)) (p .put-bytes2 .ensures)
 
 pub put-record-spec : {M : Type 1} → statement M
 put-record-spec =
     tie.close
     (tie.spec
-    (λ c. search needs) (λ c. search needs) (λ c κs. search needs) (λ c. search needs) (λ c. search needs) (λ c κs. search needs)
-    (λ c. search needs) (λ c. search needs) (λ c κs. search needs) (λ c. search needs) (λ c. search needs) (λ c κs. search needs)
-    (λ c. search needs) (λ c. search needs) (λ c κs. search needs) (λ c. search needs) (λ c. search needs) (λ c κs. search needs)
-    (λ c. search needs) (λ c. search needs) (λ c κs. search needs) (λ c. search needs) returns (λ c. search needs) returns-2
-    (λ c. search needs) returns-3 (λ c. search needs) returns-4 (λ c. search needs) returns-5 (λ c. search needs) returns-6
-    (λ c. search needs) returns-7)
+    (λ c. search needs) (λ c. search needs) (λ c κs. search needs) (λ c. search needs) (λ c. search needs) (λ c κs. search needs) (λ c. search needs) (λ c. search needs) (λ c κs. search needs) (λ c. search needs) (λ c. search needs) (λ c κs. search needs) (λ c. search needs) (λ c κs. search needs) (λ c. search needs) (λ c. search needs) (λ c κs. search needs) (λ c. search needs) (λ c. search needs) (λ c κs. search needs) (λ c. search needs) returns (λ c. search needs) returns-2 (λ c. search needs) returns-3 (λ c. search needs) returns-4 (λ c. search needs) returns-5 (λ c. search needs) returns-6 (λ c. search needs) returns-7)
