@@ -24,7 +24,7 @@ use text::put_decimal;
 // ---- Words and whole numbers.
 
 // Where the first byte of its kind stands, or the end.
-fn cut_at(s: &[u8], mark: u8) -> usize
+pub fn cut_at(s: &[u8], mark: u8) -> usize
     ensures { λ r. ⌜ (r ≡ cutAt mark (now (s .entry))) × (r ≤ length (now (s .entry))) ⌝ }
 {
     let mut i = 0;
@@ -38,7 +38,7 @@ fn cut_at(s: &[u8], mark: u8) -> usize
 }
 
 // Where the bytes behind an index begin; there are none behind the end.
-fn after(s: &[u8], n: usize) -> usize
+pub fn after(s: &[u8], n: usize) -> usize
     ensures { λ r. ⌜ (r ≤ length (now (s .entry))) × (drop r (now (s .entry)) ≡ behind n (now (s .entry))) ⌝ }
 {
     if n < s.len() {
@@ -48,9 +48,9 @@ fn after(s: &[u8], n: usize) -> usize
 }
 
 // A whole number as far as it is read: good where all bytes are digits.
-struct Whole {
-    good: bool,
-    value: u64,
+pub struct Whole {
+    pub good: bool,
+    pub value: u64,
 }
 
 // One digit more. A number above 10^18 - 1 counts as that.
@@ -95,7 +95,7 @@ fn digits_on(value: u64, s: &[u8]) -> Whole
     }
 }
 
-fn read_whole(s: &[u8]) -> Whole
+pub fn read_whole(s: &[u8]) -> Whole
     ensures { λ r. ⌜ r ≡ wholeIn (now (s .entry)) ⌝ }
 {
     if s.len() == 0 {
@@ -184,7 +184,7 @@ fn read_places(whole: &[u8], fraction: &[u8]) -> Whole
 }
 
 // The micro-units of a decimal without a sign: its digits, the point moved six places.
-fn read_micro(s: &[u8]) -> Whole
+pub fn read_micro(s: &[u8]) -> Whole
     ensures { λ r. ⌜ r ≡ microOf (now (s .entry)) ⌝ }
 {
     let n = cut_at(s, b'.');
@@ -221,7 +221,7 @@ fn signed(minus: bool, micro: Whole) -> Decimal
 }
 
 // The bytes that a minus sign takes.
-fn sign_size(s: &[u8]) -> usize
+pub fn sign_size(s: &[u8]) -> usize
     ensures { λ r. ⌜ (r ≡ signSize (now (s .entry))) × (r ≤ length (now (s .entry))) ⌝ }
 {
     if begins(s, b"-") {
