@@ -1,0 +1,10 @@
+// Prints where a satellite is at given times. Standard input has a pair and then requests, one a line:
+// `one` and `list` with times in microseconds since the epoch, `grid START STEP COUNT` with start and
+// step in seconds, `at YEAR DAY MICROSECONDS`. Printed are a header and a line for each row: date and
+// time of day in UTC, refusal number, position in km, velocity in km/s, strides. Blanks stand between the
+// cells, or commas where the first line of all is `commas`. A pair that is refused prints `refused` and
+// the number; lines that are no requests are named on standard error.
+fn main() {
+    let mut failed = false;
+    ephemeris_lines::answer_input(&mut failed);
+}

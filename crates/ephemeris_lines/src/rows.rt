@@ -1,0 +1,220 @@
+// A request's line answered. Rows gather in a room, which is printed when it is full and at the end of the
+// request. Each time is asked alone, so that a row tells its own strides.
+ghost use mathlib.Core.Path.{_≡_};
+ghost use mathlib.Core.Bool.{true};
+ghost use Prim.Native.Nat.{_≤_};
+use ephemeris_requests::Ask;
+use ephemeris_requests::Fault;
+use ephemeris_requests::Grid;
+use ephemeris_requests::put_fault;
+use ephemeris_requests::read_ask;
+use ephemeris_requests::time_at;
+use ephemeris_text::State;
+use ephemeris_text::put_row;
+use instant::Elapsed;
+use instant::Instant;
+use instant::Microseconds;
+use instant::Moved;
+use instant::move_by;
+use instant::since;
+use lent_requests::request_held;
+use streams::print;
+
+// What every row has in common: the separator and the epoch.
+pub(crate) struct Sheet {
+    pub sep: u8,
+    pub epoch: Instant,
+}
+
+// The first bytes of a room.
+pub(crate) fn print_room(failed: &mut bool, room: &[u8], n: usize)
+    ensures { λ _. ⌜ (now (failed .entry) ≡ true → now (failed .exit) ≡ true) ⌝ }
+{
+    if n <= room.len() {
+        print(failed, &room[0..n]);
+    }
+}
+
+// Where the next line may stand: no line has more than 300 bytes (RowFits of ephemeris_text).
+fn with_room(failed: &mut bool, room: &[u8], at: usize) -> usize
+    ensures { λ _. ⌜ (now (failed .entry) ≡ true → now (failed .exit) ≡ true) ⌝ }
+{
+    if at > 65000 {
+        print_room(failed, room, at);
+        return 0;
+    }
+    at
+}
+
+// The row of a time, by the instant that it moves the epoch to.
+fn add_row(
+    failed: &mut bool,
+    room: &mut [u8],
+    at: usize,
+    sep: u8,
+    when: Moved,
+    time: i64,
+    numbers: &mut [f64; 83],
+    marks: &mut [u32; 6],
+) -> usize
+    ensures { λ _. ⌜ (now (failed .entry) ≡ true → now (failed .exit) ≡ true) ⌝ }
+{
+    let at = with_room(failed, room, at);
+    let mut s = [0f64; 6];
+    let a = request_held(numbers, marks, time, &mut s);
+    let state = State {
+        x: s[0],
+        y: s[1],
+        z: s[2],
+        vx: s[3],
+        vy: s[4],
+        vz: s[5],
+    };
+    put_row(room, at, sep, when, a % 256, state, a / 4294967296)
+}
+
+fn add_time(
+    failed: &mut bool,
+    room: &mut [u8],
+    at: usize,
+    sheet: Sheet,
+    time: i64,
+    numbers: &mut [f64; 83],
+    marks: &mut [u32; 6],
+) -> usize
+    ensures { λ _. ⌜ (now (failed .entry) ≡ true → now (failed .exit) ≡ true) ⌝ }
+{
+    let epoch = sheet.epoch;
+    let when = move_by(epoch, Microseconds(time));
+    add_row(failed, room, at, sheet.sep, when, time, numbers, marks)
+}
+
+// An instant that was read and an epoch lie in the calendar, so there is a time between them.
+fn add_instant(
+    failed: &mut bool,
+    room: &mut [u8],
+    sheet: Sheet,
+    t: Instant,
+    numbers: &mut [f64; 83],
+    marks: &mut [u32; 6],
+) -> usize
+    ensures { λ _. ⌜ (now (failed .entry) ≡ true → now (failed .exit) ≡ true) ⌝ }
+{
+    let epoch = sheet.epoch;
+    match since(t, epoch) {
+        Elapsed::Is(time) => add_row(
+            failed,
+            room,
+            0,
+            sheet.sep,
+            Moved::To(t),
+            time.0,
+            numbers,
+            marks,
+        ),
+        Elapsed::Outside => 0,
+    }
+}
+
+fn add_times(
+    failed: &mut bool,
+    room: &mut [u8],
+    sheet: Sheet,
+    times: &[i64],
+    numbers: &mut [f64; 83],
+    marks: &mut [u32; 6],
+) -> usize
+    ensures { λ _. ⌜ (now (failed .entry) ≡ true → now (failed .exit) ≡ true) ⌝ }
+{
+    let mut at = 0;
+    let mut i = 0;
+    while i < times.len() {
+        at = add_time(failed, room, at, sheet, times[i], numbers, marks);
+        i += 1;
+    }
+    at
+}
+
+fn add_grid(
+    failed: &mut bool,
+    room: &mut [u8],
+    sheet: Sheet,
+    grid: Grid,
+    numbers: &mut [f64; 83],
+    marks: &mut [u32; 6],
+) -> usize
+    ensures { λ _. ⌜ (now (failed .entry) ≡ true → now (failed .exit) ≡ true) ⌝ }
+{
+    let count = grid.count;
+    let mut at = 0;
+    let mut i = 0;
+    while i < count {
+        if *failed {
+            return at;
+        }
+        let time = time_at(grid, i);
+        at = add_time(failed, room, at, sheet, time.0, numbers, marks);
+        i += 1;
+    }
+    at
+}
+
+fn tell(number: u64, why: Fault) {
+    let mut out = [0u8; 128];
+    let n = put_fault(&mut out, 0, number, why);
+    if n <= 128 {
+        io::write_all(libc::STDERR_FILENO, &out[0..n]);
+    }
+}
+
+// No list that is read is longer than the row for its times.
+fn listed(n: usize) -> usize
+    ensures { λ r. ⌜ r ≤ 1100 ⌝ }
+{
+    if n <= 1100 {
+        return n;
+    }
+    1100
+}
+
+fn rows_of(
+    failed: &mut bool,
+    sheet: Sheet,
+    number: u64,
+    line: &[u8],
+    room: &mut [u8],
+    numbers: &mut [f64; 83],
+    marks: &mut [u32; 6],
+) -> usize
+    ensures { λ _. ⌜ (now (failed .entry) ≡ true → now (failed .exit) ≡ true) ⌝ }
+{
+    let mut times = [0i64; 1100];
+    match read_ask(line, &mut times) {
+        Ask::Times(n) => {
+            let n = listed(n);
+            add_times(failed, room, sheet, &times[0..n], numbers, marks)
+        }
+        Ask::Steps(grid) => add_grid(failed, room, sheet, grid, numbers, marks),
+        Ask::At(t) => add_instant(failed, room, sheet, t, numbers, marks),
+        Ask::Bad(why) => {
+            tell(number, why);
+            0
+        }
+    }
+}
+
+// The line of such a number.
+pub(crate) fn answer(
+    failed: &mut bool,
+    sheet: Sheet,
+    number: u64,
+    line: &[u8],
+    room: &mut [u8],
+    numbers: &mut [f64; 83],
+    marks: &mut [u32; 6],
+)
+    ensures { λ _. ⌜ (now (failed .entry) ≡ true → now (failed .exit) ≡ true) ⌝ }
+{
+    let at = rows_of(failed, sheet, number, line, room, numbers, marks);
+    print_room(failed, room, at);
+}
