@@ -157,6 +157,26 @@ fn check_award() {
     }
 }
 
+/// The two files that a script makes of a program, held to those that are stored.
+fn program(script: &str, names: [&str; 2]) {
+    let folder = PathBuf::from(env!("CARGO_TARGET_TMPDIR"));
+    let made = names.map(|name| folder.join(name.replace('/', "-")));
+    output(Command::new("python3").current_dir(root()).args([script, "--program"]).args(&made));
+    for (path, name) in made.iter().zip(names) {
+        assert!(fs::read(path).unwrap() == stored(name), "{name}");
+    }
+}
+
+#[test]
+fn explain() {
+    program("tests/explain_cases.py", ["crates/explain/stdin", "crates/explain/stdout"]);
+}
+
+#[test]
+fn keep_roster() {
+    program("tests/keep_roster.py", ["crates/keep_roster/data/roster", "crates/keep_roster/stdout"]);
+}
+
 #[test]
 fn test_listing() {
     written("tests/print_cases.py", "crates/test_listing");
