@@ -118,6 +118,11 @@ fn station_windows() {
     written("tests/station_windows.py", "crates/station_windows");
 }
 
+#[test]
+fn ephemeris() {
+    written("tests/ephemeris_cases.py", "crates/ephemeris");
+}
+
 /// The two files of what_changed and what it prints of them, by the maker and by the port.
 #[test]
 fn what_changed() {

@@ -1,5 +1,6 @@
-// A request's line answered. Rows gather in a room, which is printed when it is full and at the end of the
-// request. Each time is asked alone, so that a row tells its own strides.
+// A request's line of `ephemeris` answered on standard output, or named on standard error where it is
+// none. Rows gather in a room, which is printed when it is full and at the end of the request. Each time
+// is asked alone, so that a row tells its own strides. As in streams, a failure stays marked.
 ghost use mathlib.Core.Path.{_≡_};
 ghost use mathlib.Core.Bool.{true};
 ghost use Prim.Native.Nat.{_≤_};
@@ -21,13 +22,13 @@ use lent_requests::request_held;
 use streams::print;
 
 // What every row has in common: the separator and the epoch.
-pub(crate) struct Sheet {
+pub struct Sheet {
     pub sep: u8,
     pub epoch: Instant,
 }
 
 // The first bytes of a room.
-pub(crate) fn print_room(failed: &mut bool, room: &[u8], n: usize)
+pub fn print_room(failed: &mut bool, room: &[u8], n: usize)
     ensures { λ _. ⌜ (now (failed .entry) ≡ true → now (failed .exit) ≡ true) ⌝ }
 {
     if n <= room.len() {
@@ -204,7 +205,7 @@ fn rows_of(
 }
 
 // The line of such a number.
-pub(crate) fn answer(
+pub fn answer(
     failed: &mut bool,
     sheet: Sheet,
     number: u64,
