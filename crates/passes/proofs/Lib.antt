@@ -1,0 +1,4 @@
+mod Loop
+mod Steps
+mod Scans
+mod Whole
