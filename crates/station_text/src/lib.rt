@@ -199,9 +199,10 @@ pub fn read_micro(s: &[u8]) -> Whole
     }
 }
 
-struct Decimal {
-    good: bool,
-    value: f64,
+// A decimal as far as it is read: good where it has its form.
+pub struct Decimal {
+    pub good: bool,
+    pub value: f64,
 }
 
 fn signed(minus: bool, micro: Whole) -> Decimal
@@ -230,7 +231,8 @@ pub fn sign_size(s: &[u8]) -> usize
     0
 }
 
-fn read_decimal(s: &[u8]) -> Decimal
+// A decimal, with a minus sign or without one.
+pub fn read_decimal(s: &[u8]) -> Decimal
     ensures { λ r. ⌜ r ≡ decimalIn (now (s .entry)) ⌝ }
 {
     let from = sign_size(s);

@@ -3,62 +3,12 @@
 // seconds; and the number of samples. Printed is a line for each window, with its first and its last
 // instant and its number of samples, and the strides; or `refused` and the number. Bad lines are named on
 // standard error, and then nothing is printed.
-use lent_opening::open_held;
 use lent_windows::windows_held;
-use line_input::Input;
-use line_input::next_line;
-use line_input::whole_in;
+use opening_input::read_pair;
 use printing::print_refused;
 use station_lines::print_strides;
 use station_lines::print_windows;
 use station_lines::read_call;
-use text::put_bytes;
-
-// ---- The pair.
-
-// The number of its refusal, or 0, and the input behind it.
-struct Opened {
-    refusal: u64,
-    input: Input,
-}
-
-// Keeps the line of so many bytes in its room: a line longer than its room counts as an empty one.
-fn keep(first: &mut [u8; 70], room: &[u8], size: usize) -> usize {
-    let n = whole_in(size, room);
-    put_bytes(first, 0, &room[..n])
-}
-
-fn open(
-    first: &[u8],
-    first_size: usize,
-    room: &[u8],
-    size: usize,
-    numbers: &mut [f64; 83],
-    marks: &mut [u32; 6],
-) -> u64 {
-    let n = whole_in(first_size, first);
-    let m = whole_in(size, room);
-    open_held(&first[..n], &room[..m], numbers, marks) % 256
-}
-
-fn read_pair(
-    failed: &mut bool,
-    first: &mut [u8; 70],
-    buffer: &mut [u8; 4096],
-    line: &mut [u8; 4096],
-    numbers: &mut [f64; 83],
-    marks: &mut [u32; 6],
-) -> Opened {
-    let next = next_line(failed, Input::start(), buffer, line);
-    let input = next.input;
-    let size = keep(first, line, next.size);
-    let next = next_line(failed, input, buffer, line);
-    let input = next.input;
-    let refusal = open(first, size, line, next.size, numbers, marks);
-    Opened { refusal, input }
-}
-
-// ---- The answer.
 
 // The windows of the satellite in memory; `row` has the start, the step and the number of samples. An answer has its refusal in bits 0-7, the number of windows in
 // bits 16-31 and the strides above.
