@@ -4,9 +4,12 @@ use Rattle.floats.proofs.Literals.{literal}
 use Rattle.trigonometry.proofs.sin_cos.Statement.{statement}
 use Rattle.trigonometry.proofs.sin_cos.Tie as tie
 
-pub sin-cos-spec : {M : Type 1} → statement M
+returns : tie.Need-returns
 unfolding sinCos sinOf cosOf literal
+returns c = ((cc), ((cc), (cc)))
+
+pub sin-cos-spec : {M : Type 1} → statement M
 sin-cos-spec =
     tie.close
     (tie.spec (λ c κs. search needs) (λ c κs. search needs) (λ c κs. search needs) (λ c κs. search needs) (λ c κs. search needs)
-    (λ c κs. search needs) (λ c. ((cc), ((cc), (cc)))))
+    (λ c κs. search needs) returns)

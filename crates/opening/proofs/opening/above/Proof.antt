@@ -5,6 +5,13 @@ use borrow.Author.Needs.{needs}
 use Rattle.opening.proofs.opening.above.Statement.{statement}
 use Rattle.opening.proofs.opening.above.Tie as tie
 
-pub above-spec : {M : Type 1} → statement M
+returns : tie.Need-returns
 unfolding above round units odd size span climb trailingZeros ofBits neg
-above-spec = tie.close (tie.spec (λ c. simp (c .if1 .taken)) (λ c κs. search needs) (λ c κs. search needs) (λ c. simp (c .before .before .if1 .left, c .checked .ensures, c .before .model-of .ensures)))
+returns c = simp (c .if1 .taken)
+
+returns-2 : tie.Need-returns-2
+unfolding above round units odd size span climb trailingZeros ofBits neg
+returns-2 c = simp (c .before .before .if1 .left, c .checked .ensures, c .before .model-of .ensures)
+
+pub above-spec : {M : Type 1} → statement M
+above-spec = tie.close (tie.spec returns (λ c κs. search needs) (λ c κs. search needs) returns-2)

@@ -7,9 +7,13 @@ use Rattle.periodics.specs.Dpper.{appliedOf}
 use Rattle.periodics.proofs.dpper.applied.Statement.{statement}
 use Rattle.periodics.proofs.dpper.applied.Tie as tie
 
-pub applied-spec : {M : Type 1} → statement M
+returns : tie.Need-returns
 unfolding appliedOf round units odd size span climb trailingZeros ofBits neg
-applied-spec =
-    tie.close
-    (tie.spec (λ c κs. search needs) (λ c. c .direct .ensures ∙ yes _ _ _ (c .before .if1 .taken))
-    (λ c κs. search needs) (λ c. c .lyddane .ensures ∙ no _ _ _ (c .before .if1 .left)))
+returns c = c .direct .ensures ∙ yes _ _ _ (c .before .if1 .taken)
+
+returns-2 : tie.Need-returns-2
+unfolding appliedOf round units odd size span climb trailingZeros ofBits neg
+returns-2 c = c .lyddane .ensures ∙ no _ _ _ (c .before .if1 .left)
+
+pub applied-spec : {M : Type 1} → statement M
+applied-spec = tie.close (tie.spec (λ c κs. search needs) returns (λ c κs. search needs) returns-2)
