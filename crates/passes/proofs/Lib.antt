@@ -1,4 +1,4 @@
 mod Loop
-mod Steps
+pub mod Steps
 mod Scans
 mod Whole

@@ -19,19 +19,19 @@ use windows::Seconds;
 // ---- Samples.
 
 // The highest sample so far.
-struct Best {
-    at: u64,
-    sine: f64,
+pub struct Best {
+    pub at: u64,
+    pub sine: f64,
 }
 
 // A scan stops at the sample that is wanted, the next, or where the calendar ends. The last is the one before.
-struct Scan {
-    stop: bool,
-    found: bool,
-    last: u64,
-    next: u64,
-    best: Best,
-    satellite: Satellite,
+pub struct Scan {
+    pub stop: bool,
+    pub found: bool,
+    pub last: u64,
+    pub next: u64,
+    pub best: Best,
+    pub satellite: Satellite,
 }
 
 // A scan and the samples left, the one that it stopped at among them.
@@ -157,9 +157,9 @@ fn above(satellite: Satellite, site: Site, least: f64, t: u64) -> bool
 }
 
 // An instant that is not above, and one that is; either may come first.
-struct Ends {
-    below: u64,
-    above: u64,
+pub struct Ends {
+    pub below: u64,
+    pub above: u64,
 }
 
 fn middle(a: u64, b: u64) -> u64
@@ -216,9 +216,9 @@ fn edge(satellite: Satellite, site: Site, least: f64, below: u64, above: u64) ->
 
 // ---- The highest point.
 
-struct Bracket {
-    lo: u64,
-    hi: u64,
+pub struct Bracket {
+    pub lo: u64,
+    pub hi: u64,
 }
 
 fn width(b: Bracket) -> u64

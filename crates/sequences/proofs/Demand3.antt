@@ -35,18 +35,18 @@ use Rattle.sequences.specs.Demand3.{Request, One, Many, Windows, Outcome
 
 -- ── the invariant: the saved position is that of the last time in range ──
 
-abbrev sideAt : Last → Side
+abbrev pub sideAt : Last → Side
 sideAt none = Forward
 sideAt (after u) = sideOf u
 
-abbrev needAt : Integrator → Last → ℕ
+abbrev pub needAt : Integrator → Last → ℕ
 needAt i none = 0
 needAt i (after u) = strideNeed i u
 
-abbrev placeAt : Model → Last → Place
+abbrev pub placeAt : Model → Last → Place
 placeAt k l = position (integratorOf k) (sideAt l) (needAt (integratorOf k) l)
 
-abbrev satelliteAt : Model → Last → Satellite
+abbrev pub satelliteAt : Model → Last → Satellite
 satelliteAt k l = record { model = k; place = placeAt k l }
 
 -- one time, in range or not
@@ -59,7 +59,7 @@ row-by k l t true =
     (advanced-position i (sideAt l) (sideOf t) (needAt i l) (strideNeed i t) ∙ sym (advanced-position i Forward (sideOf t) 0 (strideNeed i t)))
 row-by k l t false = refl
 
-row-step : (k : Model) (l : Last) (t : ℤ) → answered (satelliteAt k l) t .row ≡ answered (satelliteAt k none) t .row
+pub row-step : (k : Model) (l : Last) (t : ℤ) → answered (satelliteAt k l) t .row ≡ answered (satelliteAt k none) t .row
 unfolding asked
 row-step k l t = row-by k l t (inRange t)
 
@@ -68,7 +68,7 @@ unfolding reached advanceOf
 place-by k l t true = let i = integratorOf k in advanced-position i (sideAt l) (sideOf t) (needAt i l) (strideNeed i t)
 place-by k l t false = refl
 
-satellite-step : (k : Model) (l : Last) (t : ℤ) → answered (satelliteAt k l) t .satellite ≡ satelliteAt k (lastOf l t)
+pub satellite-step : (k : Model) (l : Last) (t : ℤ) → answered (satelliteAt k l) t .satellite ≡ satelliteAt k (lastOf l t)
 unfolding asked
 satellite-step k l t = ap (λ p. record { model = k; place = p }) (place-by k l t (inRange t))
 

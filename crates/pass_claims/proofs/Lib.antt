@@ -1,0 +1,4 @@
+mod Edges
+mod Tops
+mod Held
+pub mod Claims

@@ -1,0 +1,37 @@
+-- What is claimed of the passes of a satellite newly opened, and proved in proofs/Claims. Definitions only.
+use Prim.Native.Nat.{ℕ, _+_, _-_, _≤_}
+use mathlib.Core.Path.{_≡_}
+use mathlib.Core.Bool.{Bool, true, false}
+use lib.Ieee.{Float}
+use Rattle.elementary.specs.Trig.{sinOf}
+use Rattle.instant.specs.Quantity.{radiansOf}
+use Rattle.geodetic.specs.declared.Geodetic.{Geodetic}
+use Rattle.geodetic.specs.Geodetic.{siteOf}
+use Rattle.tle.specs.declared.Record.{Record}
+use Rattle.opening.specs.declared.opening.Satellite.{Satellite}
+use Rattle.opening.specs.declared.opening.Opening.the-variants.{Opened}
+use Rattle.opening.specs.Opening.{openOf}
+use Rattle.passes.specs.declared.Pass.{Pass}
+use Rattle.passes.specs.declared.Passing.{Passing}
+use Rattle.passes.specs.declared.Passing.the-variants as passing
+use Rattle.passes.specs.Passes.{aboveAt, nextPass}
+
+-- p is whether the satellite is above at an instant:
+--   rises     at the rise it is and a microsecond before it is not, but for a pass that was above at the first sample
+--   sets      at the set it is and a microsecond after it is not, but for a pass that was above at the last sample
+--   highest   the highest point lies between them
+pub record Refined (p : ℕ → Bool) (x : Pass) : Type 0 where
+  pub rises : x .begun ≡ false → (p (x .rise .0) ≡ true) × (p (x .rise .0 - 1) ≡ false)
+  pub sets : x .still ≡ false → (p (x .set .0) ≡ true) × (p (x .set .0 + 1) ≡ false)
+  pub highest : (x .rise .0 ≤ x .highest .0) × (x .highest .0 ≤ x .set .0)
+
+abbrev pub Right : (ℕ → Bool) → Passing → Type 0
+Right p (passing.Found x) = Refined p x
+Right p passing.Nothing = Unit {0}
+Right p (passing.Refused r) = Unit {0}
+
+-- every answer for a satellite newly opened, by that satellite asked one instant alone (`opened-passes`)
+abbrev pub OpenedPasses : Type 0
+OpenedPasses =
+    (r : Record) (s : Satellite) → openOf r ≡ Opened s
+    → (g : Geodetic) (least : Float) (t step n : ℕ) → Right (aboveAt (siteOf g) (sinOf (radiansOf least)) s) (nextPass s g least t step n)
