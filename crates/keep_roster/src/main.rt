@@ -1,11 +1,7 @@
 // Keeps a roster in a file: lodges the pairs of a text from standard input, withdraws a number, or lists
 // the pairs by age. The file is replaced whole before anything is told of it, under a lock, so that nothing
 // that is told is lost, whatever stops the program and however many run at once.
-use files::lock_file;
 use files::read_file;
-use files::read_file_or;
-use files::replace_file;
-use files::unlock_file;
 use line_input::whole_in;
 use pair_input::Pairs;
 use pair_input::Step;
@@ -14,10 +10,9 @@ use pair_input::more;
 use pair_input::next_step;
 use pair_lines::put_heading;
 use roster_calls::Lodging;
-use roster_calls::Withdrawal;
 use roster_calls::fill_row;
-use roster_calls::lodge;
-use roster_calls::withdraw;
+use roster_file::lodge_in;
+use roster_file::withdraw_in;
 use roster_listing::put_by_age;
 use roster_words::Command;
 use roster_words::command_of;
@@ -44,48 +39,6 @@ fn print_text(failed: &mut bool, out: &[u8], n: usize) {
     if n <= out.len() {
         streams::print(failed, &out[0..n]);
     }
-}
-
-// Where a call changed the roster, the file is replaced.
-fn keep(failed: &mut bool, name: &[u8], old: &[u8], new: &[u8]) {
-    if !check::same(old, new) {
-        replace_file(failed, name, new);
-    }
-}
-
-// The file has no row: it is filled, and where that is refused the call refuses the roster.
-fn lodge_over(
-    failed: &mut bool,
-    name: &[u8],
-    old: &[u8],
-    new: &mut [u8],
-    line1: &[u8],
-    line2: &[u8],
-) -> Lodging {
-    let mut row = [0u64; 64];
-    fill_row(old, &mut row);
-    let answer = lodge(new, &mut row, line1, line2);
-    keep(failed, name, old, new);
-    answer
-}
-
-// A byte more than a roster has is read, so that a longer file is no roster. One that is not there is an
-// empty roster.
-fn lodge_locked(failed: &mut bool, name: &[u8], line1: &[u8], line2: &[u8]) -> Lodging {
-    let mut old = [0u8; 8833];
-    let n = read_file_or(failed, name, &mut old, 8832);
-    let mut new = old;
-    lodge_over(failed, name, &old[..n], &mut new[..n], line1, line2)
-}
-
-fn lodge_pair(failed: &mut bool, name: &[u8], line1: &[u8], line2: &[u8]) -> Lodging {
-    lock_file(failed, name);
-    if *failed {
-        return Lodging::NoRoster;
-    }
-    let answer = lodge_locked(failed, name, line1, line2);
-    unlock_file(failed, name);
-    answer
 }
 
 fn is_lodged(answer: Lodging) -> bool {
@@ -121,7 +74,7 @@ fn take_pair(
     line1: &[u8],
     line2: &[u8],
 ) -> Tally {
-    let answer = lodge_pair(failed, name, line1, line2);
+    let answer = lodge_in(failed, name, line1, line2);
     let mut out = [0u8; 1024];
     let p = put_heading(&mut out, 0, first, second);
     let n = put_lodging(&mut out, p, answer, line1, line2);
@@ -195,34 +148,8 @@ fn lodge_text(failed: &mut bool, name: &[u8]) {
     }
 }
 
-fn withdraw_over(
-    failed: &mut bool,
-    name: &[u8],
-    old: &[u8],
-    new: &mut [u8],
-    number: u64,
-) -> Withdrawal {
-    let mut row = [0u64; 64];
-    fill_row(old, &mut row);
-    let answer = withdraw(new, &mut row, number);
-    keep(failed, name, old, new);
-    answer
-}
-
-fn withdraw_locked(failed: &mut bool, name: &[u8], number: u64) -> Withdrawal {
-    let mut old = [0u8; 8833];
-    let n = read_file(failed, name, &mut old);
-    let mut new = old;
-    withdraw_over(failed, name, &old[..n], &mut new[..n], number)
-}
-
 fn withdraw_number(failed: &mut bool, name: &[u8], number: u64) {
-    lock_file(failed, name);
-    if *failed {
-        return;
-    }
-    let answer = withdraw_locked(failed, name, number);
-    unlock_file(failed, name);
+    let answer = withdraw_in(failed, name, number);
     let mut out = [0u8; 128];
     let n = put_withdrawal(&mut out, 0, answer, number);
     print_text(failed, &out, n);

@@ -1,0 +1,15 @@
+use borrow.Author.Needs.{needs}
+use Rattle.roster_file.proofs.withdraw_locked.Statement.{statement}
+use Rattle.roster_file.proofs.withdraw_locked.Tie as tie
+
+returns : tie.Need-returns
+returns c =
+    let o = c .before in
+    let r = o .before .before .before .before .before in
+    λ e. o .withdraw-over .ensures (r .read-file .ensures .1 e .0)
+
+pub withdraw-locked-spec : {M : Type 1} → statement M
+withdraw-locked-spec =
+    tie.close
+    (tie.spec
+    (λ c. search needs) (λ c κs. search needs) (λ c. search needs) (λ c. search needs) (λ c. search needs) (λ c. search needs) (λ c κs. search needs) returns)
