@@ -40,39 +40,47 @@ def minutes(tsince: Any) -> int:
 def instants(jd: Any, fr: Any) -> Any:
     """The same for NumPy arrays of one dimension and one length, as int64 and no farther than 2^62.
 
-    Where the two floats are within 40,000 days of 1957 and 2 days of 0, every step below is exact but for
-    the two products and their sum, which together are off by less than 2^-14 of a microsecond. What lies
-    so close to the middle between two microseconds, or outside, is worked out by `instant`.
+    Where the Julian date is within 40,000 days of 1957 and the fraction of 0, every step below is exact but
+    for two: the rest of a day, at most a half, is off by at most 2^-54, and its microseconds by 2^-18 more,
+    together by less than 2^-16 of a microsecond. What lies so close to the middle between two microseconds,
+    or outside, is worked out by `instant`.
     """
-    day, part = jd - START, fr
-    inside = _within(day, _DAYS) and _within(fr, _PART)
+    day, part, sizes = jd - _START, fr, numpy.empty((2, len(jd)))
+    numpy.absolute(day, sizes[0])
+    numpy.absolute(fr, sizes[1])
+    inside = _largest(sizes) <= _DAYS
     if not inside:
-        doubtful = ~((abs(day) <= _DAYS) & (abs(fr) <= _PART))
+        doubtful = ~(sizes <= _DAYS).all(0)
         day, part = numpy.where(doubtful, 0.0, day), numpy.where(doubtful, 0.0, fr)
-    whole = numpy.rint(day)
+    whole = day + part
+    numpy.rint(whole, whole)
     day -= whole
-    day *= DAY
-    part = part * DAY
-    part += day
-    near = numpy.rint(part)
-    part -= near
-    whole *= DAY
+    day += part
+    day *= _DAY
+    near = numpy.rint(day)
+    day -= near
+    whole *= _DAY
     whole += near
     counts = whole.astype(numpy.int64)
-    if inside and _within(part, _CLOSE):
+    numpy.absolute(day, day)
+    if inside and _largest(day) <= _CLOSE:
         return counts
-    close = abs(part) > _CLOSE
+    close = day > _CLOSE
     for at in numpy.flatnonzero(close if inside else close | doubtful):
         counts[at] = min(max(instant(jd[at], fr[at]), -(2**62)), 2**62)
     return counts
 
 
-_DAYS, _PART, _CLOSE = 40_000, 2, 0.5 - 2**-14
+_DAYS, _CLOSE = 40_000, 0.5 - 2**-16
+
+if numpy is not None:
+    # Arrays of no dimension: NumPy takes them in less time than Python's floats.
+    _START, _DAY = numpy.array(START), numpy.array(float(DAY))
 
 
-def _within(numbers: Any, limit: float) -> bool:
-    """Whether all lie within a limit either way; a NaN does not."""
-    return bool(numpy.maximum.reduce(abs(numbers), initial=0.0) <= limit)
+def _largest(sizes: Any) -> Any:
+    """The largest of an array's sizes, 0 where there are none; a NaN where one is, which is below nothing."""
+    return numpy.maximum.reduce(sizes, None, initial=0.0)
 
 
 def pairs(jd: Any, fr: Any) -> list[tuple[float, float]]:
@@ -86,7 +94,10 @@ def pairs(jd: Any, fr: Any) -> list[tuple[float, float]]:
 
 
 def instants_of(jd: Any, fr: Any) -> Any:
-    """The instants of Julian dates and fractions as they are given: two NumPy arrays, or two sequences."""
+    """The instants of Julian dates and fractions as they are given: two NumPy arrays, or two sequences.
+
+    The array is for reading: the next call may have the same one.
+    """
     if not isinstance(jd, numpy.ndarray) or not isinstance(fr, numpy.ndarray):
         numbers = numpy.array(pairs(jd, fr), float).reshape(-1, 2)
         jd, fr = numbers[:, 0], numbers[:, 1]
@@ -96,4 +107,26 @@ def instants_of(jd: Any, fr: Any) -> Any:
         if jd.dtype.kind not in "iuf" or fr.dtype.kind not in "iuf":
             raise TypeError(f"Julian dates of type {jd.dtype} and fractions of {fr.dtype} are no floats")
         jd, fr = jd.astype(float), fr.astype(float)
-    return instants(jd, fr)
+    return _once(jd, fr) if len(jd) <= _KEPT else instants(jd, fr)
+
+
+#: The longest list of dates whose instants are kept.
+_KEPT = 4096
+
+_last: tuple[Any, Any] = None, None
+
+
+def _once(jd: Any, fr: Any) -> Any:
+    """The instants of two arrays of floats, kept for the next call: satellite after satellite is asked for one list.
+
+    They are found by the bits of all dates, so that an array written to in between is a new one. The pair that is
+    kept is taken and put as one object, whole for every thread; nobody may write to the instants.
+    """
+    global _last
+    dates = jd.tobytes(), fr.tobytes()
+    kept, counts = _last
+    if kept != dates:
+        counts = instants(jd, fr)
+        counts.flags.writeable = False
+        _last = dates, counts
+    return counts

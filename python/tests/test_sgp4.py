@@ -168,6 +168,33 @@ class Many(unittest.TestCase):
         satellite.sgp4_array(numpy.array([0.0, 2453911.5]), numpy.zeros(2))
         self.assertEqual((satellite.error, satellite.refusal), (0, 0))
 
+    def test_what_was_given_out_stays(self) -> None:
+        """A later call, of the same satellite or another, at the same dates or others, writes nothing of an earlier."""
+        for call in (self.satellites[1].sgp4_array, SatrecArray(self.satellites).sgp4):
+            first = call(self.jd[:1024], self.fr[:1024])
+            before = [part.tobytes() for part in first]
+            for satellite in self.satellites:
+                for fr in (self.fr[:1024], self.fr[1024:2048]):
+                    satellite.sgp4_array(self.jd[:1024], fr)
+                    SatrecArray(self.satellites).sgp4(self.jd[:1024], fr)
+            self.assertEqual([part.tobytes() for part in first], before)
+            for part in first:
+                part[...] = 0
+            self.assertEqual([part.tobytes() for part in call(self.jd[:1024], self.fr[:1024])], before)
+
+    def test_dates_written_to_between_calls_are_new(self) -> None:
+        satellite = self.satellites[0]
+        jd, fr = self.jd[:9].copy(), self.fr[:9].copy()
+        for dates, value in ((jd, 2453912.5), (fr, 0.25), (fr, -0.0), (jd, 0.0)):
+            satellite.sgp4_array(jd, fr)
+            dates[4] = value
+            errors, positions, _ = satellite.sgp4_array(jd, fr)
+            error, position, _ = satellite.sgp4(jd[4], fr[4])
+            self.assertEqual(errors[4], error)
+            numpy.testing.assert_array_equal(positions[4], position)
+        with self.assertRaises(ValueError):
+            satellite.sgp4_array(jd, numpy.full(9, math.nan))
+
     def test_what_is_given_stays(self) -> None:
         before = self.jd.tobytes(), self.fr.tobytes()
         SatrecArray(self.satellites).sgp4(self.jd, self.fr)

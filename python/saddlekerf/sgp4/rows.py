@@ -30,7 +30,13 @@ def fill(satellites: Sequence[Asked], times: Any, errors: Any, states: Any) -> l
         row = place * count
         satellite.request_rows(first[0] + 8 * row, count, first[1] + row, first[2] + 8 * STATE * row, first[3])
     last: list[int] = errors[:, -1].tolist()
-    if errors.any():
-        states[errors != 0] = nan
-        errors[:] = translated(errors)
+    marked(errors.reshape(-1), states.reshape(-1, STATE))
     return last
+
+
+def marked(errors: Any, states: Any) -> None:
+    """Refusals become errors, and refused rows NaNs, in place: n numbers and n × 6."""
+    if numpy.count_nonzero(errors):
+        refused = numpy.flatnonzero(errors)
+        states[refused] = nan
+        errors[refused] = translated(errors[refused])

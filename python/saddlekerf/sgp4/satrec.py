@@ -7,13 +7,13 @@ from typing import Any
 
 from .._arrays import numpy
 from .._checked import Text, held, octets
-from .._memory import Unopened, opened
+from .._memory import Rooms, Unopened, opened
 from ..julian import DAY, START, instant, instants_of, minutes, pairs
 from ..record import Record, read
 from ..refusal import Refused
 from ..reports import report
 from .errors import ERRORS
-from .rows import Asked, fill
+from .rows import Asked, marked
 
 WGS72OLD, WGS72, WGS84 = range(3)
 
@@ -109,10 +109,13 @@ class Satrec:
         """
         if numpy is None:
             return _listed([self.sgp4(*pair) for pair in pairs(jd, fr)])
-        times = instants_of(jd, fr)
-        errors, states = numpy.empty(len(times), numpy.uint8), numpy.empty((len(times), 6))
-        for refusal in fill([self._memory], times, errors[None], states[None]):
-            self._refusal = refusal
+        times = instants_of(jd, fr) - self._memory.epoch
+        rooms = Rooms(len(times))
+        rooms.fill(self._memory, times)
+        errors, states = rooms.refusals, rooms.states
+        if len(times):
+            self._refusal = errors.item(-1)
+            marked(errors, states)
         return errors, states[:, :3], states[:, 3:]
 
     @property

@@ -48,16 +48,34 @@ class SatrecArray:
             for satellite, refusal in zip(satellites, fill(asked, times, errors[block], states[block])):
                 satellite._refusal = refusal
 
-        self._on_all_cores(work, errors.size)
+        _on_all_cores(work, *count)
         return errors, states[:, :, :3], states[:, :, 3:]
 
-    def _on_all_cores(self, work: Callable[[slice], None], rows: int) -> None:
-        """Does the work for all satellites, block by block where there are many rows."""
-        threads = len(os.sched_getaffinity(0)) if rows >= _MANY else 1
-        if threads == 1:
-            return work(slice(None))
-        # Blocks small enough that no core waits long for the last one.
-        size = max(1, len(self) // (8 * threads))
-        with ThreadPoolExecutor(threads) as pool:
-            for _ in pool.map(work, [slice(at, at + size) for at in range(0, len(self), size)]):
-                pass
+
+def _on_all_cores(work: Callable[[slice], None], satellites: int, times: int) -> None:
+    """Does the work for all satellites, block by block where there are many rows."""
+    threads = min(len(os.sched_getaffinity(0)), satellites) if satellites * times >= _MANY else 1
+    if threads == 1:
+        return work(slice(None))
+    # Threads share an iterator of a list, whose steps are atomic, so that each block is taken once.
+    blocks = iter(_blocks(satellites, threads))
+
+    def run() -> None:
+        for block in blocks:
+            work(block)
+
+    with ThreadPoolExecutor(threads - 1) as pool:
+        others = [pool.submit(run) for _ in range(threads - 1)]
+        run()
+        for other in others:
+            other.result()
+
+
+def _blocks(satellites: int, threads: int) -> list[slice]:
+    """All satellites in blocks that become smaller, down to one, so that no core waits long for the last."""
+    blocks, at = [], 0
+    while at < satellites:
+        size = max(1, (satellites - at) // (4 * threads))
+        blocks.append(slice(at, at + size))
+        at += size
+    return blocks
