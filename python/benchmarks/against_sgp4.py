@@ -15,7 +15,9 @@ import random
 import sys
 import time
 from collections.abc import Callable
+from concurrent.futures import ThreadPoolExecutor
 from pathlib import Path
+from unittest import mock
 
 sys.path.insert(0, str(Path(__file__).resolve().parents[1]))
 
@@ -24,8 +26,9 @@ import sgp4.api as theirs
 
 import saddlekerf
 from saddlekerf import sgp4 as ours
-from saddlekerf._memory import Rooms
-from saddlekerf.julian import instants_of
+from saddlekerf._library import MARKS, NUMBERS, STATE, library
+from saddlekerf._memory import Rooms, address
+from saddlekerf.julian import DAY, instants_of
 from tests.common import published, random_record
 
 KINDS = {"near Earth": "06251", "deep space": "28129", "one-day": "24208", "half-day": "08195"}
@@ -43,25 +46,61 @@ def best(rounds: int, *calls: Callable[[], object], clock: Callable[[], float] =
     return shortest
 
 
-def grid(satellite: ours.Satrec, count: int) -> tuple[numpy.ndarray, numpy.ndarray]:
-    """A day from the epoch on."""
-    return numpy.full(count, satellite.jdsatepoch), satellite.jdsatepochF + numpy.arange(count) / count
+Dates = tuple[numpy.ndarray, numpy.ndarray]
+
+
+def grid(satellite: ours.Satrec, first: float, last: float, count: int) -> Dates:
+    """Dates from one time to another, in days since the epoch."""
+    part = satellite.jdsatepochF + first + numpy.arange(count) * ((last - first) / count)
+    return numpy.full(count, satellite.jdsatepoch), part
+
+
+def c_call(satellite: ours.Satrec, dates: Dates) -> Callable[[], object]:
+    """The call of C alone, its arguments ready, into arrays that are there."""
+    since, rooms, rows = instants_of(*dates) - satellite._memory.epoch, Rooms(len(dates[0])), len(dates[0])
+    memory, places = satellite._memory, [address(a) for a in (since, rooms.refusals, rooms.states, rooms.rounds)]
+    lent = [end for place, size in zip(places, (1, 1, STATE, 1)) for end in (place, size * rows)]
+    arguments = memory._numbers, NUMBERS, memory._marks, MARKS, *lent
+    # The arrays live as long as the call that has their addresses.
+    return lambda kept=(since, rooms): library.request_list(*arguments)
 
 
 def arrays(rounds: int) -> None:
-    print("| 1,024 rows of a day | C call: ns a row | `sgp4_array` | of the C call | sgp4's | times as fast |")
-    print("|---|---:|---:|---:|---:|---:|")
+    print("| 1,024 rows of a day | C call: ns a row | `sgp4_array`, new dates | of the C call | dates of the last call "
+          "| of the C call | sgp4's | times as fast |")
+    print("|---|---:|---:|---:|---:|---:|---:|---:|")
     for kind, number in KINDS.items():
         mine, its = (package.Satrec.twoline2rv(*PAIRS[number]) for package in (ours, theirs))
-        jd, fr = grid(mine, 1024)
-        since = instants_of(jd, fr) - mine._memory.epoch
-        rooms = Rooms(1024)
-        call, array = best(
-            20 * rounds, lambda: rooms.fill(mine._memory, since), lambda: mine.sgp4_array(jd, fr)
+        day, other = grid(mine, 0, 1, 1024), grid(mine, 0.0001, 1.0001, 1024)
+        # Each call for the other dates before it makes the day's dates new to the next, and old to the one after.
+        call, _, new, old = best(
+            20 * rounds, c_call(mine, day), lambda: mine.sgp4_array(*other), lambda: mine.sgp4_array(*day),
+            lambda: mine.sgp4_array(*day),
         )  # fmt: skip
-        other, = best(max(3, rounds // 2), lambda: its.sgp4_array(jd, fr))
-        a, b, c = (seconds / 1.024e-6 for seconds in (call, array, other))
-        print(f"| {kind} | {a:.1f} | {b:.1f} | {array / call:.3f} | {c:,.0f} | {other / array:.1f} |")
+        slow, = best(max(3, rounds // 2), lambda: its.sgp4_array(*day))
+        a, b, c, d = (seconds / 1.024e-6 for seconds in (call, new, old, slow))
+        print(f"| {kind} | {a:.1f} | {b:.1f} | {new / call:.3f} | {c:.1f} | {old / call:.3f} | {d:,.0f} "
+              f"| {slow / new:.1f} |")
+
+
+def published_set(rounds: int) -> None:
+    """All published pairs that open, each over its own span of time: one total against the other."""
+    print("\n| The published pairs, each over its own times | rows | saddlekerf: ms | sgp4: ms | times as fast |")
+    print("|---|---:|---:|---:|---:|")
+    pairs = [pair for pair in published() if not pair.refused]
+    for name, count in (("the published rows", None), ("1,024 rows each", 1024)):
+        asked = []
+        for pair in pairs:
+            mine, its = (package.Satrec.twoline2rv(pair.line1, pair.line2) for package in (ours, theirs))
+            days = [row.time / DAY for row in pair.rows]
+            dates = grid(mine, min(days), max(days), count or len(days))
+            if count is None:
+                dates = dates[0], mine.jdsatepochF + numpy.array(days)
+            asked.append((mine, its, dates))
+        a, = best(5 * rounds, lambda: [mine.sgp4_array(*dates) for mine, _, dates in asked])
+        b, = best(max(3, rounds // 4), lambda: [its.sgp4_array(*dates) for _, its, dates in asked])
+        rows = sum(len(dates[0]) for _, _, dates in asked)
+        print(f"| {name}, {len(asked)} pairs | {rows:,} | {a * 1e3:.3f} | {b * 1e3:.1f} | {b / a:.1f} |")
 
 
 def single(rounds: int) -> None:
@@ -92,23 +131,33 @@ def satellites(count: int) -> list[tuple[str, str]]:
 
 def cores(rounds: int) -> None:
     lines = satellites(1000)
-    many = ours.SatrecArray(ours.Satrec.twoline2rv(*pair) for pair in lines)
+    satrecs = [ours.Satrec.twoline2rv(*pair) for pair in lines]
+    many = ours.SatrecArray(satrecs)
     jd, fr = numpy.full(1024, 2453911.5), numpy.arange(1024) / 1024
-    all_cores = os.sched_getaffinity(0)
+    calls = [c_call(satellite, (jd, fr)) for satellite in satrecs]
+    count = len(os.sched_getaffinity(0))
 
-    def on_one_core() -> None:
-        os.sched_setaffinity(0, {min(all_cores)})
-        try:
+    def in_one_thread() -> None:
+        with mock.patch("os.sched_getaffinity", return_value={0}):
             many.sgp4(jd, fr)
-        finally:
-            os.sched_setaffinity(0, all_cores)
 
-    one, every = best(max(3, rounds // 4), on_one_core, lambda: many.sgp4(jd, fr), clock=time.perf_counter)
+    def c_calls(threads: int) -> None:
+        """The calls of C alone, each thread taking the next: as much as the machine gives."""
+        following = iter(calls)
+        with ThreadPoolExecutor(threads) as pool:
+            for _ in range(threads):
+                pool.submit(lambda: [call() for call in following])
+
+    one, every, c_one, c_every = best(
+        max(5, rounds // 2), in_one_thread, lambda: many.sgp4(jd, fr), lambda: c_calls(1), lambda: c_calls(count),
+        clock=time.perf_counter,
+    )  # fmt: skip
     few = theirs.SatrecArray([theirs.Satrec.twoline2rv(*pair) for pair in lines])
     mine, its = best(2, lambda: many.sgp4(jd[:10], fr[:10]), lambda: few.sgp4(jd[:10], fr[:10]))
-    print(f"\n`SatrecArray` of 1,000 satellites at 1,024 times: {one:.3f} s on one core, {every:.3f} s on "
-          f"{len(all_cores)}, {one / every:.2f} times as fast. At 10 times: {mine * 1e3:.1f} ms, sgp4's "
-          f"{its * 1e3:.0f} ms, {its / mine:.0f} times as fast.")
+    print(f"\n`SatrecArray` of 1,000 satellites at 1,024 times: {one:.3f} s in one thread, {every:.3f} s in "
+          f"{count}, {one / every:.2f} times as fast; the C calls alone {c_one:.3f} s and {c_every:.3f} s, "
+          f"{c_one / c_every:.2f} times. At 10 times: {mine * 1e3:.1f} ms, sgp4's {its * 1e3:.0f} ms, "
+          f"{its / mine:.0f} times as fast.")
 
 
 def catalogue(rounds: int) -> None:
@@ -130,7 +179,7 @@ def main() -> None:
     rounds = parser.parse_args().rounds
     how = "with its C++ extension" if theirs.accelerated else "in Python alone: not accelerated"
     print(f"Python {sys.version.split()[0]}, NumPy {numpy.__version__}, sgp4 {how}\n")
-    for part in (arrays, single, cores, catalogue):
+    for part in (arrays, published_set, single, cores, catalogue):
         part(rounds)
 
 

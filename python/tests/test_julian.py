@@ -57,7 +57,8 @@ class Nearest(unittest.TestCase):
         chance = random.Random(3)
         ordinary = [pair for pair in dates(chance, 20_000) if abs(pair[1]) <= 2 and 2.43e6 < pair[0] < 2.48e6]
         ties = [(2435839.5 + day, (2 * part + 1) * 2.0**-14) for day, part in zip(range(50), range(50))]
-        for pairs in (ordinary, dates(chance, 2000), ties, ordinary[:1], []):
+        far = [(2435839.5 + chance.uniform(-4.1e4, 4.1e4), chance.uniform(-4.1e4, 4.1e4)) for _ in range(5000)]
+        for pairs in (ordinary, dates(chance, 2000), ties, far, ordinary[:1], []):
             jd, fr = numpy.array([p[0] for p in pairs]), numpy.array([p[1] for p in pairs])
             expected = [min(max(nearest(*pair), -(2**62)), 2**62) for pair in pairs]
             with numpy.errstate(all="raise", under="ignore"):
