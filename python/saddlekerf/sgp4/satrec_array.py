@@ -3,6 +3,7 @@
 from __future__ import annotations
 
 import os
+from collections import deque
 from collections.abc import Callable, Iterable
 from concurrent.futures import ThreadPoolExecutor
 from typing import Any
@@ -57,11 +58,15 @@ def _on_all_cores(work: Callable[[slice], None], satellites: int, times: int) ->
     threads = min(len(os.sched_getaffinity(0)), satellites) if satellites * times >= _MANY else 1
     if threads == 1:
         return work(slice(None))
-    # Threads share an iterator of a list, whose steps are atomic, so that each block is taken once.
-    blocks = iter(_blocks(satellites, threads))
+    # Any thread may take the next block; a deque gives each once.
+    blocks = deque(_blocks(satellites, threads))
 
     def run() -> None:
-        for block in blocks:
+        while True:
+            try:
+                block = blocks.popleft()
+            except IndexError:
+                return
             work(block)
 
     with ThreadPoolExecutor(threads - 1) as pool:
