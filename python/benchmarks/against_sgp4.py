@@ -12,6 +12,7 @@ import argparse
 import io
 import os
 import random
+import statistics
 import sys
 import time
 from collections.abc import Callable
@@ -35,15 +36,22 @@ KINDS = {"near Earth": "06251", "deep space": "28129", "one-day": "24208", "half
 PAIRS = {pair.line1[2:7]: (pair.line1, pair.line2) for pair in published()}
 
 
-def best(rounds: int, *calls: Callable[[], object], clock: Callable[[], float] = time.process_time) -> list[float]:
-    """The shortest time of each call in seconds, over rounds in which each takes its turn."""
-    shortest = [float("inf")] * len(calls)
+def timed(
+    rounds: int, *calls: Callable[[], object], clock: Callable[[], float] = time.process_time
+) -> list[list[float]]:
+    """The times of each call in seconds, over rounds in which each takes its turn."""
+    times: list[list[float]] = [[] for _ in calls]
     for _ in range(rounds):
         for at, call in enumerate(calls):
             start = clock()
             call()
-            shortest[at] = min(shortest[at], clock() - start)
-    return shortest
+            times[at].append(clock() - start)
+    return times
+
+
+def best(rounds: int, *calls: Callable[[], object], clock: Callable[[], float] = time.process_time) -> list[float]:
+    """The shortest time of each call."""
+    return [min(times) for times in timed(rounds, *calls, clock=clock)]
 
 
 Dates = tuple[numpy.ndarray, numpy.ndarray]
@@ -66,21 +74,23 @@ def c_call(satellite: ours.Satrec, dates: Dates) -> Callable[[], object]:
 
 
 def arrays(rounds: int) -> None:
-    print("| 1,024 rows of a day | C call: ns a row | `sgp4_array`, new dates | of the C call | dates of the last call "
-          "| of the C call | sgp4's | times as fast |")
-    print("|---|---:|---:|---:|---:|---:|---:|---:|")
+    print("| 1,024 rows of a day | C call: ns a row | `sgp4_array`, new dates | of the C call | median of rounds "
+          "| dates of the last call | of the C call | sgp4's | times as fast |")
+    print("|---|---:|---:|---:|---:|---:|---:|---:|---:|")
     for kind, number in KINDS.items():
         mine, its = (package.Satrec.twoline2rv(*PAIRS[number]) for package in (ours, theirs))
         day, other = grid(mine, 0, 1, 1024), grid(mine, 0.0001, 1.0001, 1024)
         # Each call for the other dates before it makes the day's dates new to the next, and old to the one after.
-        call, _, new, old = best(
+        times = timed(
             20 * rounds, c_call(mine, day), lambda: mine.sgp4_array(*other), lambda: mine.sgp4_array(*day),
             lambda: mine.sgp4_array(*day),
         )  # fmt: skip
+        call, _, new, old = map(min, times)
+        middle = statistics.median(n / c for c, n in zip(times[0], times[2]))
         slow, = best(max(3, rounds // 2), lambda: its.sgp4_array(*day))
         a, b, c, d = (seconds / 1.024e-6 for seconds in (call, new, old, slow))
-        print(f"| {kind} | {a:.1f} | {b:.1f} | {new / call:.3f} | {c:.1f} | {old / call:.3f} | {d:,.0f} "
-              f"| {slow / new:.1f} |")
+        print(f"| {kind} | {a:.1f} | {b:.1f} | {new / call:.3f} | {middle:.3f} | {c:.1f} "
+              f"| {old / call:.3f} | {d:,.0f} | {slow / new:.1f} |")
 
 
 def published_set(rounds: int) -> None:
@@ -152,12 +162,14 @@ def cores(rounds: int) -> None:
         max(5, rounds // 2), in_one_thread, lambda: many.sgp4(jd, fr), lambda: c_calls(1), lambda: c_calls(count),
         clock=time.perf_counter,
     )  # fmt: skip
+    # All threads together: what sharing the work costs, whatever else the machine does.
+    cpu_one, cpu_every = best(max(3, rounds // 4), in_one_thread, lambda: many.sgp4(jd, fr))
     few = theirs.SatrecArray([theirs.Satrec.twoline2rv(*pair) for pair in lines])
     mine, its = best(2, lambda: many.sgp4(jd[:10], fr[:10]), lambda: few.sgp4(jd[:10], fr[:10]))
     print(f"\n`SatrecArray` of 1,000 satellites at 1,024 times: {one:.3f} s in one thread, {every:.3f} s in "
           f"{count}, {one / every:.2f} times as fast; the C calls alone {c_one:.3f} s and {c_every:.3f} s, "
-          f"{c_one / c_every:.2f} times. At 10 times: {mine * 1e3:.1f} ms, sgp4's {its * 1e3:.0f} ms, "
-          f"{its / mine:.0f} times as fast.")
+          f"{c_one / c_every:.2f} times. In processor time {cpu_one:.3f} s and {cpu_every:.3f} s. "
+          f"At 10 times: {mine * 1e3:.1f} ms, sgp4's {its * 1e3:.0f} ms, {its / mine:.0f} times as fast.")
 
 
 def catalogue(rounds: int) -> None:
