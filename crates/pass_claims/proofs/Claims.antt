@@ -23,13 +23,14 @@ use Rattle.sightings.specs.declared.Seen.{Seen}
 use Rattle.sightings.specs.Sightings.{seenAt}
 use Rattle.sequences.specs.Demand3.{none}
 use Rattle.sequences.proofs.Demand3.{satelliteAt, opened-place}
-use Rattle.passes.specs.declared.Best.{Best}
+use Rattle.pass_edges.specs.declared.Best.{Best}
 use Rattle.passes.specs.declared.Scan.{Scan}
 use Rattle.passes.specs.declared.Pass.{Pass}
 use Rattle.passes.specs.declared.Passing.{Passing}
 use Rattle.passes.specs.declared.Passing.the-variants as passing
-use Rattle.passes.specs.Search.{until, hits, higher, begin, stopped, passed, judged, sampled, stops, edge, summit}
-use Rattle.passes.specs.Passes.{passRefusal, sineAt, aboveAt, scanned, scansLeft, after, leftOf, passOf, searched, nextPass}
+use Rattle.pass_edges.specs.Search.{sineAt, aboveAt, until, edge, summit}
+use Rattle.passes.specs.Samples.{hits, higher, begin, stopped, passed, judged, sampled, stops}
+use Rattle.passes.specs.Passes.{passRefusal, scanned, scansLeft, after, leftOf, passOf, searched, nextPass}
 use Rattle.passes.proofs.Steps.{short-step}
 use Rattle.pass_claims.specs.Claims.{Refined, Right, OpenedPasses}
 use Rattle.pass_claims.proofs.Edges.{impossible, differ, less-than, edge-rises, edge-sets, edge-same}

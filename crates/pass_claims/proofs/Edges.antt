@@ -6,8 +6,8 @@ use native.Mathlib.Omega.{arith}
 use native.Mathlib.Nat.{pow-suc}
 use lib.Dec.{leb, ltb}
 use borrow.Author.Tests.{ltb-true, ltb-false, leb-true}
-use Rattle.passes.specs.declared.Ends.{Ends}
-use Rattle.passes.specs.Search.{until, middle, halved, neighbours, edge}
+use Rattle.pass_edges.specs.declared.Ends.{Ends}
+use Rattle.pass_edges.specs.Search.{until, middle, halved, neighbours, edge}
 
 twice : (k : ℕ) → 2 ^ suc k ≡ 2 * 2 ^ k
 twice k = rw pow-suc (omega arith)

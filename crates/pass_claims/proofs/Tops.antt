@@ -4,9 +4,9 @@ use mathlib.Core.Bool.{Bool, true, false, cond}
 use Prim.Native.Nat.{ℕ, zero, suc, _+_, _-_, _/_, _≤_, max, min}
 use native.Mathlib.Omega.{arith}
 use lib.Ieee.{Float, lt}
-use Rattle.passes.specs.declared.Best.{Best}
-use Rattle.passes.specs.declared.Bracket.{Bracket}
-use Rattle.passes.specs.Search.{until, thirds, narrow, centre, climbed, summit}
+use Rattle.pass_edges.specs.declared.Best.{Best}
+use Rattle.pass_edges.specs.declared.Bracket.{Bracket}
+use Rattle.pass_edges.specs.Search.{until, thirds, narrow, centre, climbed, summit}
 
 module _ (f : ℕ → Float) (a b : ℕ) where
   abbrev Within : Bracket → Type 0

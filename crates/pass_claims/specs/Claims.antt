@@ -14,7 +14,8 @@ use Rattle.opening.specs.Opening.{openOf}
 use Rattle.passes.specs.declared.Pass.{Pass}
 use Rattle.passes.specs.declared.Passing.{Passing}
 use Rattle.passes.specs.declared.Passing.the-variants as passing
-use Rattle.passes.specs.Passes.{aboveAt, nextPass}
+use Rattle.pass_edges.specs.Search.{aboveAt}
+use Rattle.passes.specs.Passes.{nextPass}
 
 -- p is whether the satellite is above at an instant:
 --   rises     at the rise it is and a microsecond before it is not, but for a pass that was above at the first sample

@@ -1,4 +1,3 @@
-mod Loop
 pub mod Steps
 mod Scans
 mod Whole

@@ -1,9 +1,9 @@
--- The highest point, the search and the call, put together from their parts.
+-- The search and the call, put together from their parts.
 use mathlib.Core.Path.{_≡_, refl, sym, ap, _∙_}
 use mathlib.Core.Bool.{Bool, true, false, cond}
-use Prim.Native.Nat.{ℕ, _+_, _-_, _*_, max, min}
+use Prim.Native.Nat.{ℕ, _*_}
 use lib.Dec.{eqb}
-use lib.Ieee.{Float, lt}
+use lib.Ieee.{Float}
 use borrow.Author.Tests.{eq-eqb, ne-eqb}
 use Rattle.elementary.specs.Trig.{sinOf}
 use Rattle.instant.specs.Quantity.{radiansOf}
@@ -11,32 +11,12 @@ use Rattle.geodetic.specs.declared.Geodetic.{Geodetic}
 use Rattle.geodetic.specs.declared.Site.{Site}
 use Rattle.geodetic.specs.Geodetic.{siteOf}
 use Rattle.opening.specs.declared.opening.Satellite.{Satellite}
-use Rattle.passes.specs.declared.Best.{Best}
 use Rattle.passes.specs.declared.Scan.{Scan}
 use Rattle.passes.specs.declared.Pass.{Pass}
 use Rattle.passes.specs.declared.Passing.{Passing}
 use Rattle.passes.specs.declared.Passing.the-variants as passing
-use Rattle.passes.specs.Search.{climbed, summit}
 use Rattle.passes.specs.Passes.{passRefusal, scanned, scansLeft, passOf, searched, nextPass}
-use Rattle.passes.proofs.Steps.{yes, no}
-
-module _ (f : ℕ → Float) (b : Best) (rise set step lo hi m : ℕ) (y : Float) (hlo : lo ≡ max rise (b .at - step)) (hhi : hi ≡ min set (b .at + step)) (hm : m ≡ climbed f lo hi) (hy : y ≡ f m) where
-  abbrev m₀ : ℕ
-  m₀ = climbed f (max rise (b .at - step)) (min set (b .at + step))
-
-  there : m ≡ m₀
-  there = hm ∙ ap (λ z. climbed f z hi) hlo ∙ ap (climbed f (max rise (b .at - step))) hhi
-
-  found : (t : Bool) → lt (b .sine) y ≡ t → lt (b .sine) (f m₀) ≡ t
-  found t h = ap (λ z. lt (b .sine) (f z)) (sym there) ∙ ap (λ z. lt (b .sine) z) (sym hy) ∙ h
-
-  pub summit-yes : lt (b .sine) y ≡ true → m ≡ summit f b rise set step
-  unfolding summit
-  summit-yes h = there ∙ yes (lt (b .sine) (f m₀)) m₀ (b .at) (found true h)
-
-  pub summit-no : lt (b .sine) y ≡ false → b .at ≡ summit f b rise set step
-  unfolding summit
-  summit-no h = no (lt (b .sine) (f m₀)) m₀ (b .at) (found false h)
+use Rattle.pass_edges.proofs.Steps.{yes, no}
 
 module _ (site : Site) (least : Float) (step n : ℕ) (s : Satellite) (t : ℕ) (up : Scan) (k : ℕ) (hup : up ≡ scanned site least true step n s t) (hk : k ≡ scansLeft site least true step n s t) where
   abbrev going : Scan → ℕ → Scan

@@ -2,7 +2,7 @@
 use Prim.Native.Nat.{ℕ, _*_}
 use mathlib.Core.Bool.{Bool, true, false, cond, not, _&&_, _||_}
 use lib.Dec.{eqb, ltb}
-use lib.Ieee.{Float, lt}
+use lib.Ieee.{Float}
 use Rattle.elementary.specs.Notation.{dec}
 use Rattle.elementary.specs.Trig.{sinOf}
 use Rattle.instant.specs.Quantity.{radiansOf}
@@ -15,7 +15,9 @@ use Rattle.passes.specs.declared.Scan.{Scan}
 use Rattle.passes.specs.declared.Pass.{Pass}
 use Rattle.passes.specs.declared.Passing as ps
 use Rattle.passes.specs.declared.Passing.the-variants as passing
-use Rattle.passes.specs.Search.{until, leftOver, begin, sampled, stops, edge, summit}
+use Rattle.pass_edges.specs.Search.{sineAt, aboveAt}
+use Rattle.pass_edges.specs.Search.{until, leftOver, edge, summit}
+use Rattle.passes.specs.Samples.{begin, sampled, stops}
 
 -- ── refusals, before any sample ──
 
@@ -25,13 +27,6 @@ passRefusal g least step =
     cond (not (onEarth g && between (dec 0 0) least (dec 90 0))) 25 (cond (eqb step 0 || ltb 86400 step) 26 0)
 
 -- ── the pass ──
-
-abbrev pub sineAt : Site → Satellite → ℕ → Float
-sineAt site s t = seenAt site s t .sine
-
--- above the least elevation, whose sine is given
-abbrev pub aboveAt : Site → Float → Satellite → ℕ → Bool
-aboveAt site least s t = lt least (sineAt site s t)
 
 -- at most n samples from t, a step of microseconds apart, to the first that is above, or not above
 unfoldable pub scanned : Site → Float → Bool → ℕ → ℕ → Satellite → ℕ → Scan

@@ -1,7 +1,7 @@
 use mathlib.Core.Path.{refl}
 use lib.Ieee.{round, units, odd, size, span, climb, ofBits, neg}
 use lib.Count.{trailingZeros}
-use Rattle.passes.specs.Search.{begin}
+use Rattle.passes.specs.Samples.{begin}
 use Rattle.passes.proofs.begin.Statement.{statement}
 use Rattle.passes.proofs.begin.Tie as tie
 

@@ -1,4 +1,4 @@
-use Rattle.passes.specs.Search.{higher}
+use Rattle.passes.specs.Samples.{higher}
 use Rattle.passes.proofs.higher.Statement.{statement}
 use Rattle.passes.proofs.higher.Tie as tie
 

@@ -1,4 +1,4 @@
-use Rattle.passes.specs.Search.{hits}
+use Rattle.passes.specs.Samples.{hits}
 use Rattle.passes.proofs.hits.Statement.{statement}
 use Rattle.passes.proofs.hits.Tie as tie
 

@@ -1,5 +1,5 @@
 use borrow.Author.Needs.{needs}
-use Rattle.passes.specs.Search.{passed}
+use Rattle.passes.specs.Samples.{passed}
 use Rattle.passes.proofs.passed.Statement.{statement}
 use Rattle.passes.proofs.passed.Tie as tie
 

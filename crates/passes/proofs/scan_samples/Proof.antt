@@ -1,7 +1,7 @@
 use native.Mathlib.Omega.{arith}
 use Rattle.sightings.specs.Sightings.{seenAt}
-use Rattle.passes.specs.Search.{sampled, stops}
-use Rattle.passes.proofs.Loop.{Left, begun, again}
+use Rattle.passes.specs.Samples.{sampled, stops}
+use Rattle.pass_edges.proofs.Loop.{Left, begun, again}
 use Rattle.passes.proofs.Scans.{scan-early, scan-late}
 use Rattle.passes.proofs.scan_samples.Statement.{statement}
 use Rattle.passes.proofs.scan_samples.Tie as tie

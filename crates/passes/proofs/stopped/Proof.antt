@@ -1,5 +1,5 @@
 use mathlib.Core.Path.{refl}
-use Rattle.passes.specs.Search.{stopped}
+use Rattle.passes.specs.Samples.{stopped}
 use Rattle.passes.proofs.stopped.Statement.{statement}
 use Rattle.passes.proofs.stopped.Tie as tie
 

@@ -1,6 +1,6 @@
-use Rattle.passes.proofs.Whole.{summit-yes, summit-no}
-use Rattle.passes.proofs.summit.Statement.{statement}
-use Rattle.passes.proofs.summit.Tie as tie
+use Rattle.pass_edges.proofs.Ended.{summit-yes, summit-no}
+use Rattle.pass_edges.proofs.summit.Statement.{statement}
+use Rattle.pass_edges.proofs.summit.Tie as tie
 
 returns : tie.Need-returns
 returns c =

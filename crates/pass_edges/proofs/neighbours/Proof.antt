@@ -1,7 +1,7 @@
 use borrow.Author.Needs.{needs}
-use Rattle.passes.proofs.Steps.{near-up, near-down}
-use Rattle.passes.proofs.neighbours.Statement.{statement}
-use Rattle.passes.proofs.neighbours.Tie as tie
+use Rattle.pass_edges.proofs.Steps.{near-up, near-down}
+use Rattle.pass_edges.proofs.neighbours.Statement.{statement}
+use Rattle.pass_edges.proofs.neighbours.Tie as tie
 
 returns : tie.Need-returns
 returns c = near-up _ (c .if1 .taken)

@@ -1,11 +1,11 @@
 use native.Mathlib.Omega.{arith}
-use Rattle.passes.specs.Search.{halved, neighbours}
-use Rattle.passes.specs.Passes.{aboveAt}
+use Rattle.pass_edges.specs.Search.{halved, neighbours}
+use Rattle.pass_edges.specs.Search.{aboveAt}
 use mathlib.Core.Path.{sym, ap, _∙_}
-use Rattle.passes.proofs.Loop.{Left, begun, again}
-use Rattle.passes.proofs.Scans.{edge-early, edge-late}
-use Rattle.passes.proofs.edge.Statement.{statement}
-use Rattle.passes.proofs.edge.Tie as tie
+use Rattle.pass_edges.proofs.Loop.{Left, begun, again}
+use Rattle.pass_edges.proofs.Ended.{edge-early, edge-late}
+use Rattle.pass_edges.proofs.edge.Statement.{statement}
+use Rattle.pass_edges.proofs.edge.Tie as tie
 
 abbrev Inv-loop : tie.InvT-loop
 Inv-loop satellite site least below above e₀ left₀ e left = Left neighbours (halved (aboveAt site least satellite)) 37 (record { below = below; above = above }) left e

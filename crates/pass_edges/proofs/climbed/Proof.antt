@@ -1,11 +1,11 @@
 use native.Mathlib.Omega.{arith}
-use Rattle.passes.specs.Search.{thirds, narrow}
-use Rattle.passes.specs.Passes.{sineAt}
+use Rattle.pass_edges.specs.Search.{thirds, narrow}
+use Rattle.pass_edges.specs.Search.{sineAt}
 use mathlib.Core.Path.{sym, ap, _∙_}
-use Rattle.passes.proofs.Loop.{Left, begun, again}
-use Rattle.passes.proofs.Scans.{climb-early, climb-late}
-use Rattle.passes.proofs.climbed.Statement.{statement}
-use Rattle.passes.proofs.climbed.Tie as tie
+use Rattle.pass_edges.proofs.Loop.{Left, begun, again}
+use Rattle.pass_edges.proofs.Ended.{climb-early, climb-late}
+use Rattle.pass_edges.proofs.climbed.Statement.{statement}
+use Rattle.pass_edges.proofs.climbed.Tie as tie
 
 abbrev Inv-loop : tie.InvT-loop
 Inv-loop satellite site lo hi b₀ left₀ b left = Left narrow (thirds (sineAt site satellite)) 64 (record { lo = lo; hi = hi }) left b

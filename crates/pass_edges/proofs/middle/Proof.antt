@@ -1,8 +1,8 @@
 use native.Mathlib.Omega.{arith}
 use borrow.Author.Needs.{needs}
-use Rattle.passes.specs.Search.{middle}
-use Rattle.passes.proofs.middle.Statement.{statement}
-use Rattle.passes.proofs.middle.Tie as tie
+use Rattle.pass_edges.specs.Search.{middle}
+use Rattle.pass_edges.proofs.middle.Statement.{statement}
+use Rattle.pass_edges.proofs.middle.Tie as tie
 
 returns : tie.Need-returns
 unfolding middle

@@ -1,7 +1,7 @@
 use native.Mathlib.Omega.{arith}
-use Rattle.passes.specs.Search.{centre}
-use Rattle.passes.proofs.centre.Statement.{statement}
-use Rattle.passes.proofs.centre.Tie as tie
+use Rattle.pass_edges.specs.Search.{centre}
+use Rattle.pass_edges.proofs.centre.Statement.{statement}
+use Rattle.pass_edges.proofs.centre.Tie as tie
 
 returns : tie.Need-returns
 unfolding centre

@@ -1,7 +1,7 @@
 use native.Mathlib.Omega.{arith}
-use Rattle.passes.proofs.Steps.{thirds-yes, thirds-no}
-use Rattle.passes.proofs.thirds.Statement.{statement}
-use Rattle.passes.proofs.thirds.Tie as tie
+use Rattle.pass_edges.proofs.Steps.{thirds-yes, thirds-no}
+use Rattle.pass_edges.proofs.thirds.Statement.{statement}
+use Rattle.pass_edges.proofs.thirds.Tie as tie
 
 returns : tie.Need-returns
 returns c =

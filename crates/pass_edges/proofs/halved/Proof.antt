@@ -1,6 +1,6 @@
-use Rattle.passes.proofs.Steps.{halved-yes, halved-no}
-use Rattle.passes.proofs.halved.Statement.{statement}
-use Rattle.passes.proofs.halved.Tie as tie
+use Rattle.pass_edges.proofs.Steps.{halved-yes, halved-no}
+use Rattle.pass_edges.proofs.halved.Statement.{statement}
+use Rattle.pass_edges.proofs.halved.Tie as tie
 
 returns : tie.Need-returns
 returns c = halved-yes _ _ _ _ (c .before .before .middle .ensures) (c .before .above .ensures) (c .if1 .taken)

@@ -3,7 +3,7 @@ use mathlib.Core.Path.{_≡_, refl, sym, ap, _∙_}
 use mathlib.Core.Bool.{Bool, true, false, cond}
 use Prim.Native.Nat.{ℕ, zero, suc, _-_, _≤_, _<_}
 use native.Mathlib.Omega.{arith}
-use Rattle.passes.specs.Search.{until, leftOver}
+use Rattle.pass_edges.specs.Search.{until, leftOver}
 
 pub record Left {A : Type 0} (stop : A → Bool) (next : A → A) (n₀ : ℕ) (x₀ : A) (n : ℕ) (x : A) : Type 0 where
   pub rest : until stop next n x ≡ until stop next n₀ x₀

@@ -1,17 +1,24 @@
--- How a pass is found: by samples, its edges by halving, its highest point by thirds. Definitions only.
--- `look` is what a satellite shows at an instant, `p` whether it is above at one, `f` the sine of its elevation.
-use Prim.Native.Nat.{ℕ, zero, suc, _+_, _-_, _*_, _/_, max, min}
-use mathlib.Core.Bool.{Bool, true, false, cond, not, _&&_}
+-- How the edges of a pass are refined by halving, and its highest point by thirds. Definitions only.
+-- `p` is whether a satellite is above at an instant, `f` the sine of its elevation.
+use Prim.Native.Nat.{ℕ, zero, suc, _+_, _-_, _/_, max, min}
+use mathlib.Core.Bool.{Bool, cond, _&&_}
 use lib.Dec.{leb}
 use lib.Ieee.{Float, lt}
-use Rattle.instant.specs.Calendar.{inCalendar}
+use Rattle.geodetic.specs.declared.Site.{Site}
 use Rattle.opening.specs.declared.opening.Satellite.{Satellite}
-use Rattle.horizon.specs.Horizon.{nadir}
-use Rattle.sightings.specs.declared.Seen.{Seen}
-use Rattle.passes.specs.declared.Best.{Best}
-use Rattle.passes.specs.declared.Scan.{Scan}
-use Rattle.passes.specs.declared.Ends.{Ends}
-use Rattle.passes.specs.declared.Bracket.{Bracket}
+use Rattle.sightings.specs.Sightings.{seenAt}
+use Rattle.pass_edges.specs.declared.Best.{Best}
+use Rattle.pass_edges.specs.declared.Ends.{Ends}
+use Rattle.pass_edges.specs.declared.Bracket.{Bracket}
+
+-- ── a satellite, asked single instants ──
+
+abbrev pub sineAt : Site → Satellite → ℕ → Float
+sineAt site s t = seenAt site s t .sine
+
+-- above the least elevation, whose sine is given
+abbrev pub aboveAt : Site → Float → Satellite → ℕ → Bool
+aboveAt site least s t = lt least (sineAt site s t)
 
 -- ── a loop: at most n steps, the last one that stops ──
 
@@ -23,48 +30,6 @@ until stop next (suc n) x = cond (stop (next x)) (next x) (until stop next n (ne
 unfoldable pub leftOver : {A : Type 0} → (A → Bool) → (A → A) → ℕ → A → ℕ
 leftOver stop next zero x = 0
 leftOver stop next (suc n) x = cond (stop (next x)) (suc n) (leftOver stop next n (next x))
-
--- ── samples ──
-
--- above, or where `wanted` is false, not above
-unfoldable pub hits : Float → Bool → Float → Bool
-hits least wanted sine = cond wanted (lt least sine) (not (lt least sine))
-
--- of equal ones the first
-unfoldable pub higher : Best → ℕ → Float → Best
-higher b t sine = cond (lt (b .sine) sine) (record { at = t; sine = sine }) b
-
--- the samples begin at t; none was asked yet
-unfoldable pub begin : Satellite → ℕ → Scan
-begin s t = record { stop = false; found = false; last = t; next = t; best = record { at = t; sine = nadir }; satellite = s }
-
--- the next sample is what is wanted: the satellite stays as the one before left it
-unfoldable pub stopped : Bool → Scan → Scan
-stopped found x =
-    record { stop = true; found = found; last = x .last; next = x .next; best = x .best; satellite = x .satellite }
-
--- it is not: the one after it is the next
-unfoldable pub passed : ℕ → Scan → Seen → Scan
-passed step x y =
-    record {
-      stop = false;
-      found = false;
-      last = x .next;
-      next = x .next + step;
-      best = higher (x .best) (x .next) (y .sine);
-      satellite = y .satellite;
-    }
-
-unfoldable pub judged : Float → Bool → ℕ → Scan → Seen → Scan
-judged least wanted step x y = cond (hits least wanted (y .sine)) (stopped true x) (passed step x y)
-
--- one sample; they end with the calendar
-unfoldable pub sampled : (Satellite → ℕ → Seen) → Float → Bool → ℕ → Scan → Scan
-sampled look least wanted step x =
-    cond (inCalendar (x .next)) (judged least wanted step x (look (x .satellite) (x .next))) (stopped false x)
-
-abbrev pub stops : Scan → Bool
-stops x = x .stop
 
 -- ── an edge ──
 
