@@ -5,14 +5,15 @@
 use explanation::is_well;
 use explanation::put_explanation;
 use explanation::put_progress;
+use line_input::Input;
 use line_input::whole_in;
-use pair_input::Pairs;
-use pair_input::Step;
-use pair_input::What;
-use pair_input::more;
 use pair_input::next_step;
 use pair_lines::put_heading;
 use pair_lines::put_summary;
+use pair_steps::Pairs;
+use pair_steps::Step;
+use pair_steps::What;
+use pair_steps::more;
 
 // The pairs and those that are well so far.
 struct Tally {
@@ -106,11 +107,22 @@ fn read_text(failed: &mut bool) {
     let mut line1 = io::buffer();
     let mut line = io::buffer();
     let mut out = [0u8; 256];
+    let mut input = Input::start();
     let mut pairs = Pairs::start();
     let mut t = Tally { pairs: 0, well: 0 };
     let mut turns = u64::MAX;
     while turns > 0 {
-        let step = next_step(failed, pairs, &mut buffer, &mut line1, &mut line, &mut out);
+        let next = next_step(
+            failed,
+            input,
+            pairs,
+            &mut buffer,
+            &mut line1,
+            &mut line,
+            &mut out,
+        );
+        input = next.input;
+        let step = next.step;
         pairs = step.pairs;
         let what = step.what;
         if what.is_over() {

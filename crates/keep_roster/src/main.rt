@@ -2,18 +2,18 @@
 // the pairs by age. The file is replaced whole before anything is told of it, under a lock, so that nothing
 // that is told is lost, whatever stops the program and however many run at once.
 use files::read_file;
+use kept_roster::put_kept;
+use line_input::Input;
 use line_input::whole_in;
-use pair_input::Pairs;
-use pair_input::Step;
-use pair_input::What;
-use pair_input::more;
 use pair_input::next_step;
 use pair_lines::put_heading;
+use pair_steps::Pairs;
+use pair_steps::Step;
+use pair_steps::What;
+use pair_steps::more;
 use roster_calls::Lodging;
-use roster_calls::fill_row;
 use roster_file::lodge_in;
 use roster_file::withdraw_in;
-use roster_listing::put_by_age;
 use roster_words::Command;
 use roster_words::command_of;
 use roster_words::put_lodging;
@@ -129,6 +129,7 @@ fn lodge_text(failed: &mut bool, name: &[u8]) {
     let mut line1 = io::buffer();
     let mut line = io::buffer();
     let mut out = [0u8; 256];
+    let mut input = Input::start();
     let mut pairs = Pairs::start();
     let mut t = Tally {
         pairs: 0,
@@ -136,7 +137,17 @@ fn lodge_text(failed: &mut bool, name: &[u8]) {
     };
     let mut turns = u64::MAX;
     while turns > 0 {
-        let step = next_step(failed, pairs, &mut buffer, &mut line1, &mut line, &mut out);
+        let next = next_step(
+            failed,
+            input,
+            pairs,
+            &mut buffer,
+            &mut line1,
+            &mut line,
+            &mut out,
+        );
+        input = next.input;
+        let step = next.step;
         pairs = step.pairs;
         let what = step.what;
         if what.is_over() {
@@ -169,10 +180,8 @@ fn withdraw_argument(failed: &mut bool, name: &[u8]) {
 fn list(failed: &mut bool, name: &[u8]) {
     let mut roster = [0u8; 8833];
     let n = read_file(failed, name, &mut roster);
-    let mut row = [0u64; 64];
-    fill_row(&roster[..n], &mut row);
     let mut out = io::buffer();
-    let size = put_by_age(&mut out, 0, &roster[..n], &row);
+    let size = put_kept(&mut out, 0, &roster[..n]);
     print_text(failed, &out, size);
 }
 

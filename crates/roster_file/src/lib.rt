@@ -2,16 +2,16 @@
 // roster changed. As in streams, a failure is told once and stays marked, and then nothing is done.
 ghost use mathlib.Core.Path.{_≡_};
 ghost use mathlib.Core.Bool.{true};
+ghost use Rattle.roster_file.specs.Answers.{Lodges, Withdraws};
 use files::lock_file;
 use files::read_file;
 use files::read_file_or;
 use files::replace_file;
 use files::unlock_file;
+use kept_roster::lodge_kept;
+use kept_roster::withdraw_kept;
 use roster_calls::Lodging;
 use roster_calls::Withdrawal;
-use roster_calls::fill_row;
-use roster_calls::lodge;
-use roster_calls::withdraw;
 
 // Where a call changed the roster, the file is replaced.
 fn keep(failed: &mut bool, name: &[u8], old: &[u8], new: &[u8])
@@ -22,7 +22,7 @@ fn keep(failed: &mut bool, name: &[u8], old: &[u8], new: &[u8])
     }
 }
 
-// The file has no row: it is filled, and where that is refused the call refuses the roster.
+// The bytes that were read come twice, as the roster before the call and as the one that it changes.
 fn lodge_over(
     failed: &mut bool,
     name: &[u8],
@@ -31,11 +31,9 @@ fn lodge_over(
     line1: &[u8],
     line2: &[u8],
 ) -> Lodging
-    ensures { λ _. ⌜ (now (failed .entry) ≡ true → now (failed .exit) ≡ true) ⌝ }
+    ensures { λ a. ⌜ Lodges (now (failed .entry)) (now (line1 .entry)) (now (line2 .entry)) (now (failed .exit)) a ⌝ }
 {
-    let mut row = [0u64; 64];
-    fill_row(old, &mut row);
-    let answer = lodge(new, &mut row, line1, line2);
+    let answer = lodge_kept(new, line1, line2);
     keep(failed, name, old, new);
     answer
 }
@@ -43,7 +41,7 @@ fn lodge_over(
 // A byte more than a roster has is read, so that a longer file is no roster. One that is not there is an
 // empty roster.
 fn lodge_locked(failed: &mut bool, name: &[u8], line1: &[u8], line2: &[u8]) -> Lodging
-    ensures { λ _. ⌜ (now (failed .entry) ≡ true → now (failed .exit) ≡ true) ⌝ }
+    ensures { λ a. ⌜ Lodges (now (failed .entry)) (now (line1 .entry)) (now (line2 .entry)) (now (failed .exit)) a ⌝ }
 {
     let mut old = [0u8; 8833];
     let n = read_file_or(failed, name, &mut old, 8832);
@@ -53,7 +51,7 @@ fn lodge_locked(failed: &mut bool, name: &[u8], line1: &[u8], line2: &[u8]) -> L
 
 // Lodges the pair of two lines, locked; after a failure the answer says nothing.
 pub fn lodge_in(failed: &mut bool, name: &[u8], line1: &[u8], line2: &[u8]) -> Lodging
-    ensures { λ _. ⌜ (now (failed .entry) ≡ true → now (failed .exit) ≡ true) ⌝ }
+    ensures { λ a. ⌜ Lodges (now (failed .entry)) (now (line1 .entry)) (now (line2 .entry)) (now (failed .exit)) a ⌝ }
 {
     lock_file(failed, name);
     if *failed {
@@ -71,17 +69,15 @@ fn withdraw_over(
     new: &mut [u8],
     number: u64,
 ) -> Withdrawal
-    ensures { λ _. ⌜ (now (failed .entry) ≡ true → now (failed .exit) ≡ true) ⌝ }
+    ensures { λ a. ⌜ Withdraws (now (failed .entry)) number (now (failed .exit)) a ⌝ }
 {
-    let mut row = [0u64; 64];
-    fill_row(old, &mut row);
-    let answer = withdraw(new, &mut row, number);
+    let answer = withdraw_kept(new, number);
     keep(failed, name, old, new);
     answer
 }
 
 fn withdraw_locked(failed: &mut bool, name: &[u8], number: u64) -> Withdrawal
-    ensures { λ _. ⌜ (now (failed .entry) ≡ true → now (failed .exit) ≡ true) ⌝ }
+    ensures { λ a. ⌜ Withdraws (now (failed .entry)) number (now (failed .exit)) a ⌝ }
 {
     let mut old = [0u8; 8833];
     let n = read_file(failed, name, &mut old);
@@ -91,7 +87,7 @@ fn withdraw_locked(failed: &mut bool, name: &[u8], number: u64) -> Withdrawal
 
 // Withdraws a number, locked; after a failure the answer says nothing.
 pub fn withdraw_in(failed: &mut bool, name: &[u8], number: u64) -> Withdrawal
-    ensures { λ _. ⌜ (now (failed .entry) ≡ true → now (failed .exit) ≡ true) ⌝ }
+    ensures { λ a. ⌜ Withdraws (now (failed .entry)) number (now (failed .exit)) a ⌝ }
 {
     lock_file(failed, name);
     if *failed {

@@ -6,7 +6,7 @@ returns : tie.Need-returns
 returns c =
     let o = c .before in
     let r = o .before .before .before .before .before in
-    λ e. o .lodge-over .ensures (r .read-file-or .ensures .1 e .0)
+    record { marked = λ e. o .lodge-over .ensures .marked (r .read-file-or .ensures .1 e .0); answered = o .lodge-over .ensures .answered }
 
 pub lodge-locked-spec : {M : Type 1} → statement M
 lodge-locked-spec =

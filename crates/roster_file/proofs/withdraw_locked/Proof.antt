@@ -6,7 +6,7 @@ returns : tie.Need-returns
 returns c =
     let o = c .before in
     let r = o .before .before .before .before .before in
-    λ e. o .withdraw-over .ensures (r .read-file .ensures .1 e .0)
+    record { marked = λ e. o .withdraw-over .ensures .marked (r .read-file .ensures .1 e .0); answered = o .withdraw-over .ensures .answered }
 
 pub withdraw-locked-spec : {M : Type 1} → statement M
 withdraw-locked-spec =
