@@ -8,6 +8,17 @@ use Prim.Native.Char.{code}
 use Rattle.text.specs.Output.{bytes, decimal}
 use Rattle.marked_line.specs.Marked.{marked, named}
 
+-- of a class that admits letters, or blanks with digits or letters
+unfoldable pub choiceText : ℕ → List ℕ
+choiceText class =
+    cond (eqb class (code "N")) (bytes "a digit, or a letter A-Z but I and O,")
+    (cond (eqb class (code "R")) (bytes "a blank or a digit")
+    (cond (eqb class (code "r")) (bytes "a digit, or a blank after a blank,")
+    (cond (eqb class (code "f")) (bytes "a digit, or after a blank a blank,")
+    (cond (eqb class (code "L")) (bytes "a letter A-Z, or after a blank a blank,")
+    (cond (eqb class (code "l")) (bytes "a blank, or after another byte a letter A-Z,")
+    (bytes "no byte"))))))
+
 -- what may stand in a column of a class: specs/Layout of crate `columns` has the classes, fits says the same of bytes
 unfoldable pub allowedText : ℕ → List ℕ
 allowedText class =
@@ -19,13 +30,7 @@ allowedText class =
     (cond (eqb class (code "S")) (bytes "a blank, + or -")
     (cond (eqb class (code "E")) (bytes "+ or -")
     (cond (eqb class (code "C")) (bytes "U, C or S")
-    (cond (eqb class (code "N")) (bytes "a digit, or a letter A-Z but I and O,")
-    (cond (eqb class (code "R")) (bytes "a blank or a digit")
-    (cond (eqb class (code "r")) (bytes "a digit, or a blank after a blank,")
-    (cond (eqb class (code "f")) (bytes "a digit, or after a blank a blank,")
-    (cond (eqb class (code "L")) (bytes "a letter A-Z, or after a blank a blank,")
-    (cond (eqb class (code "l")) (bytes "a blank, or after another byte a letter A-Z,")
-    (bytes "no byte"))))))))))))))
+    (choiceText class))))))))
 
 -- what is said of a line whose last byte is a carriage return
 unfoldable pub endText : ℕ → List ℕ

@@ -4,7 +4,7 @@ ghost use mathlib.Core.Path.{_≡_};
 ghost use Prim.Native.Nat.{_-_, _≤_};
 ghost use lib.ListN.{length, getD};
 ghost use Rattle.text.specs.Output.{Put};
-ghost use Rattle.column_faults.specs.Faults.{allowedText, endText, sizeText, lengthText, placeText, columnText};
+ghost use Rattle.column_faults.specs.Faults.{allowedText, choiceText, endText, sizeText, lengthText, placeText, columnText};
 ghost use Rattle.column_faults.specs.Sums.{digitSum, minus, minuses, dueText, checksumText};
 use columns::checksum;
 use columns::digit;
@@ -14,6 +14,21 @@ use marked_line::put_named;
 use text::put_byte;
 use text::put_bytes;
 use text::put_decimal;
+
+// What may stand in a column of a class that admits letters, or blanks with digits or letters.
+fn put_choice(out: &mut [u8], at: usize, class: u8) -> usize
+    ensures { λ r. ⌜ Put (now (out .entry)) at (choiceText class) (now (out .exit)) r ⌝ }
+{
+    match class {
+        b'N' => put_bytes(out, at, b"a digit, or a letter A-Z but I and O,"),
+        b'R' => put_bytes(out, at, b"a blank or a digit"),
+        b'r' => put_bytes(out, at, b"a digit, or a blank after a blank,"),
+        b'f' => put_bytes(out, at, b"a digit, or after a blank a blank,"),
+        b'L' => put_bytes(out, at, b"a letter A-Z, or after a blank a blank,"),
+        b'l' => put_bytes(out, at, b"a blank, or after another byte a letter A-Z,"),
+        _ => put_bytes(out, at, b"no byte"),
+    }
+}
 
 // What may stand in a column of the class (crate columns, specs/Layout.antt).
 fn put_allowed(out: &mut [u8], at: usize, class: u8) -> usize
@@ -28,13 +43,7 @@ fn put_allowed(out: &mut [u8], at: usize, class: u8) -> usize
         b'S' => put_bytes(out, at, b"a blank, + or -"),
         b'E' => put_bytes(out, at, b"+ or -"),
         b'C' => put_bytes(out, at, b"U, C or S"),
-        b'N' => put_bytes(out, at, b"a digit, or a letter A-Z but I and O,"),
-        b'R' => put_bytes(out, at, b"a blank or a digit"),
-        b'r' => put_bytes(out, at, b"a digit, or a blank after a blank,"),
-        b'f' => put_bytes(out, at, b"a digit, or after a blank a blank,"),
-        b'L' => put_bytes(out, at, b"a letter A-Z, or after a blank a blank,"),
-        b'l' => put_bytes(out, at, b"a blank, or after another byte a letter A-Z,"),
-        _ => put_bytes(out, at, b"no byte"),
+        _ => put_choice(out, at, class),
     }
 }
 

@@ -360,8 +360,7 @@ fn read_all(failed: &mut bool, r: Run) -> Run {
     run
 }
 
-fn print_tally(failed: &mut bool, label: &[u8], compared: u64, differ: u64, first: u64) {
-    streams::print(failed, label);
+fn print_counts(failed: &mut bool, compared: u64, differ: u64, first: u64) {
     streams::print_decimal(failed, compared);
     streams::print(failed, b" compared, ");
     streams::print_decimal(failed, differ);
@@ -373,21 +372,28 @@ fn print_tally(failed: &mut bool, label: &[u8], compared: u64, differ: u64, firs
     streams::print(failed, b"\n");
 }
 
+fn print_tally(failed: &mut bool, label: &[u8], t: Tallies, op: usize)
+    requires { ⌜ op < 11 ⌝ }
+{
+    let compared = t.compared;
+    let differ = t.differ;
+    let first = t.first;
+    streams::print(failed, label);
+    print_counts(failed, compared[op], differ[op], first[op]);
+}
+
 fn print_tallies(failed: &mut bool, t: Tallies) {
-    let n = t.compared;
-    let d = t.differ;
-    let f = t.first;
-    print_tally(failed, b"epoch: ", n[0], d[0], f[0]);
-    print_tally(failed, b"split: ", n[1], d[1], f[1]);
-    print_tally(failed, b"move: ", n[2], d[2], f[2]);
-    print_tally(failed, b"since: ", n[3], d[3], f[3]);
-    print_tally(failed, b"minutes: ", n[4], d[4], f[4]);
-    print_tally(failed, b"days: ", n[5], d[5], f[5]);
-    print_tally(failed, b"jd: ", n[6], d[6], f[6]);
-    print_tally(failed, b"gst: ", n[7], d[7], f[7]);
-    print_tally(failed, b"twice: ", n[8], d[8], f[8]);
-    print_tally(failed, b"back: ", n[9], d[9], f[9]);
-    print_tally(failed, b"unreadable: ", n[10], d[10], f[10]);
+    print_tally(failed, b"epoch: ", t, 0);
+    print_tally(failed, b"split: ", t, 1);
+    print_tally(failed, b"move: ", t, 2);
+    print_tally(failed, b"since: ", t, 3);
+    print_tally(failed, b"minutes: ", t, 4);
+    print_tally(failed, b"days: ", t, 5);
+    print_tally(failed, b"jd: ", t, 6);
+    print_tally(failed, b"gst: ", t, 7);
+    print_tally(failed, b"twice: ", t, 8);
+    print_tally(failed, b"back: ", t, 9);
+    print_tally(failed, b"unreadable: ", t, 10);
 }
 
 fn main() {

@@ -40,45 +40,13 @@ returns-8 c = let p = c .before .before in same (sym (ap allowedText (p .before 
 
 returns-9 : tie.Need-returns-9
 unfolding allowedText
-returns-9 c = let p = c .before .before in same (sym (ap allowedText (p .before .before .before .match .keys9))) (p .put-bytes9 .ensures)
-
-returns-10 : tie.Need-returns-10
-unfolding allowedText
-returns-10 c = let p = c .before .before in same (sym (ap allowedText (p .before .before .before .match .keys10))) (p .put-bytes10 .ensures)
-
-returns-11 : tie.Need-returns-11
-unfolding allowedText
-returns-11 c = let p = c .before .before in same (sym (ap allowedText (p .before .before .before .match .keys11))) (p .put-bytes11 .ensures)
-
-returns-12 : tie.Need-returns-12
-unfolding allowedText
-returns-12 c = let p = c .before .before in same (sym (ap allowedText (p .before .before .before .match .keys12))) (p .put-bytes12 .ensures)
-
-returns-13 : tie.Need-returns-13
-unfolding allowedText
-returns-13 c = let p = c .before .before in same (sym (ap allowedText (p .before .before .before .match .keys13))) (p .put-bytes13 .ensures)
-
-returns-14 : tie.Need-returns-14
-unfolding allowedText
-returns-14 c = let p = c .before .before in same (sym (ap allowedText (p .before .before .before .match .keys14))) (p .put-bytes14 .ensures)
-
-returns-15 : tie.Need-returns-15
-unfolding allowedText
-returns-15 c =
+returns-9 c =
     let p = c .before .before in
-    let m = p .before .before .before .match in
-    same (simp (ne-eqb _ _ (m .rest .1), ne-eqb _ _ (m .rest .0 .1), ne-eqb _ _ (m .rest .0 .0 .1), ne-eqb _ _ (m .rest .0 .0 .0 .1), ne-eqb _ _ (m .rest .0 .0 .0 .0 .1), ne-eqb _ _ (m .rest .0 .0 .0 .0 .0 .1), ne-eqb _ _ (m .rest .0 .0 .0 .0 .0 .0 .1), ne-eqb _ _ (m .rest .0 .0 .0 .0 .0 .0 .0 .1), ne-eqb _ _ (m .rest .0 .0 .0 .0 .0 .0 .0 .0 .1), ne-eqb _ _ (m .rest .0 .0 .0 .0 .0 .0 .0 .0 .0 .1), ne-eqb _ _ (m .rest .0 .0 .0 .0 .0 .0 .0 .0 .0 .0 .1), ne-eqb _ _ (m .rest .0 .0 .0 .0 .0 .0 .0 .0 .0 .0 .0 .1), ne-eqb _ _ (m .rest .0 .0 .0 .0 .0 .0 .0 .0 .0 .0 .0 .0 .1), ne-eqb _ _ (m .rest .0 .0 .0 .0 .0 .0 .0 .0 .0 .0 .0 .0 .0 .1))) (p .put-bytes15 .ensures)
+    let m = p .before .before .match in
+    same (simp (ne-eqb _ _ (m .rest .1), ne-eqb _ _ (m .rest .0 .1), ne-eqb _ _ (m .rest .0 .0 .1), ne-eqb _ _ (m .rest .0 .0 .0 .1), ne-eqb _ _ (m .rest .0 .0 .0 .0 .1), ne-eqb _ _ (m .rest .0 .0 .0 .0 .0 .1), ne-eqb _ _ (m .rest .0 .0 .0 .0 .0 .0 .1), ne-eqb _ _ (m .rest .0 .0 .0 .0 .0 .0 .0 .1))) (p .put-choice .ensures)
 
 pub put-allowed-spec : {M : Type 1} → statement M
 put-allowed-spec =
     tie.close
     (tie.spec
-    (λ c. search needs) (λ c κs. search needs) (λ c. search needs) (λ c κs. search needs) (λ c. search needs) (λ c κs. search needs)
-    (λ c. search needs) (λ c κs. search needs) (λ c. search needs) (λ c κs. search needs) (λ c. search needs) (λ c κs. search needs)
-    (λ c. search needs) (λ c κs. search needs) (λ c. search needs) (λ c κs. search needs) (λ c. search needs) (λ c κs. search needs)
-    (λ c. search needs) (λ c κs. search needs) (λ c. search needs) (λ c κs. search needs) (λ c. search needs) (λ c κs. search needs)
-    (λ c. search needs) (λ c κs. search needs) (λ c. search needs) (λ c κs. search needs) (λ c. search needs) (λ c κs. search needs)
-    (λ c. search needs) returns (λ c. search needs) returns-2 (λ c. search needs) returns-3 (λ c. search needs) returns-4 (λ c. search needs)
-    returns-5 (λ c. search needs) returns-6 (λ c. search needs) returns-7 (λ c. search needs) returns-8 (λ c. search needs) returns-9
-    (λ c. search needs) returns-10 (λ c. search needs) returns-11 (λ c. search needs) returns-12 (λ c. search needs) returns-13
-    (λ c. search needs) returns-14 (λ c. search needs) returns-15)
+    (λ c. search needs) (λ c κs. search needs) (λ c. search needs) (λ c κs. search needs) (λ c. search needs) (λ c κs. search needs) (λ c. search needs) (λ c κs. search needs) (λ c. search needs) (λ c κs. search needs) (λ c. search needs) (λ c κs. search needs) (λ c. search needs) (λ c κs. search needs) (λ c. search needs) (λ c κs. search needs) (λ c κs. search needs) (λ c. search needs) returns (λ c. search needs) returns-2 (λ c. search needs) returns-3 (λ c. search needs) returns-4 (λ c. search needs) returns-5 (λ c. search needs) returns-6 (λ c. search needs) returns-7 (λ c. search needs) returns-8 (λ c. search needs) returns-9)
