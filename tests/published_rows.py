@@ -1,5 +1,5 @@
 #!/usr/bin/env python3
-"""Writes stdin and stdout of the crates test_rows and replay from bench/vectors/published-rows.txt.
+"""Writes stdin and stdout of the crate replay from bench/vectors/published-rows.txt: its pairs and times, then cases of requests.
 
     published_rows.py [FOLDER]
 
@@ -79,17 +79,15 @@ def replayed(found):
     return asked, answered
 
 
-def write(folder, asked, answered, last=""):
-    folder.mkdir(parents=True, exist_ok=True)
-    folder.joinpath("stdin").write_text("\n".join(asked) + last)
-    folder.joinpath("stdout").write_text("\n".join(answered) + "\n")
-
-
 def main():
     target = Path(sys.argv[1]) if len(sys.argv) > 1 else ROOT
     found = pairs((ROOT / "bench/vectors/published-rows.txt").read_text())
-    write(target / "crates/test_rows", *published(found), "\n")
-    write(target / "crates/replay", *replayed(found))
+    asked, answered = published(found)
+    more_asked, more_answered = replayed(found)
+    folder = target / "crates/replay"
+    folder.mkdir(parents=True, exist_ok=True)
+    folder.joinpath("stdin").write_text("\n".join(asked + more_asked))
+    folder.joinpath("stdout").write_text("\n".join(answered + more_answered) + "\n")
 
 
 if __name__ == "__main__":

@@ -72,7 +72,7 @@ fn made_from_rows(script: &str, crates: &[&str]) {
 
 #[test]
 fn published_rows_and_replay() {
-    made_from_rows("published_rows.py", &["test_rows", "replay"]);
+    made_from_rows("published_rows.py", &["replay"]);
 }
 
 #[test]

@@ -3,14 +3,14 @@ use mathlib.Core.Path.{_≡_}
 use mathlib.Core.Bool.{true}
 use native.Mathlib.Omega.{arith}
 use borrow.Author.Needs.{needs}
-use Rattle.session.proofs.run.Statement.{statement}
-use Rattle.session.proofs.run.Tie as tie
+use Rattle.replay.proofs.run.Statement.{statement}
+use Rattle.replay.proofs.run.Tie as tie
 
 abbrev Inv-loop : tie.InvT-loop
-Inv-loop failed₀ many numbers₀ marks₀ first₀ buffer₀ line₀ input₀ stage₀ turns₀ failed numbers marks first buffer line input stage turns = failed₀ ≡ true → failed ≡ true
+Inv-loop failed₀ numbers₀ marks₀ first₀ buffer₀ line₀ input₀ stage₀ turns₀ failed numbers marks first buffer line input stage turns = failed₀ ≡ true → failed ≡ true
 
 abbrev μ-loop : tie.MeasureT-loop
-μ-loop failed₀ many numbers₀ marks₀ first₀ buffer₀ line₀ input₀ stage₀ turns₀ failed numbers marks first buffer line input stage turns = turns
+μ-loop failed₀ numbers₀ marks₀ first₀ buffer₀ line₀ input₀ stage₀ turns₀ failed numbers marks first buffer line input stage turns = turns
 
 returns : tie.Need-returns Inv-loop μ-loop
 returns c =
