@@ -13,7 +13,6 @@ once to even, an instant a date by datetime.
       tells what the cases have met.
 """
 
-import argparse
 import re
 import struct
 import sys
@@ -23,6 +22,7 @@ from decimal import Context, Decimal, ROUND_HALF_EVEN
 from pathlib import Path
 
 sys.dont_write_bytecode = True
+import case_files
 from published_rows import pairs
 from tle_pairs import judge
 
@@ -281,38 +281,5 @@ WANTED = ["rows", "refused with 9", "one", "list", "grid", "at", "commas", "blan
           "no grid START STEP COUNT in seconds", "no instant YEAR DAY MICROSECONDS", "too many times in a line"]
 
 
-def write_cases(folder):
-    folder.mkdir(parents=True, exist_ok=True)
-    for number, (name, content) in enumerate(cases(), 1):
-        printed, said = answer(content)
-        stem = folder / ("%03d-%s" % (number, re.sub(r"[^a-z0-9]+", "-", name.lower())[:40].strip("-")))
-        stem.with_suffix(".in").write_bytes(content)
-        stem.with_suffix(".out").write_text(printed)
-        stem.with_suffix(".err").write_text(said)
-
-
-def tell():
-    found = cases()
-    for _, content in found:
-        answer(content)
-    for name in WANTED:
-        assert met[name] > 0, name
-    print(len(found), "cases;", ", ".join(f"{name} {count}" for name, count in sorted(met.items())))
-
-
-def main():
-    words = argparse.ArgumentParser(description=__doc__, formatter_class=argparse.RawDescriptionHelpFormatter)
-    words.add_argument("--write", nargs=2, metavar=("INPUT", "EXPECTED"))
-    words.add_argument("--cases", metavar="FOLDER")
-    words = words.parse_args()
-    if words.write:
-        Path(words.write[0]).write_bytes(main_case())
-        Path(words.write[1]).write_text(answer(main_case())[0])
-    elif words.cases:
-        write_cases(Path(words.cases))
-    else:
-        tell()
-
-
 if __name__ == "__main__":
-    main()
+    case_files.main(sys.modules[__name__])

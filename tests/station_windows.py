@@ -15,7 +15,6 @@ station's horizon, or the maker stops.
       tells what the cases have met.
 """
 
-import argparse
 import cmath
 import math
 import re
@@ -24,9 +23,9 @@ from collections import Counter
 from datetime import date, timedelta
 from fractions import Fraction
 from itertools import groupby
-from pathlib import Path
 
 sys.dont_write_bytecode = True
+import case_files
 from near_earth import Near, published
 from report_texts import LOW, OPPOSITE, REFUSED, epoch, kind, pair, recovered
 from tle_pairs import judge
@@ -433,48 +432,10 @@ def cases():
     return found
 
 
-# ------------------------------------------------------------------ the program
-
 WANTED = ["windows", "none", "all", "of one sample", "at the first sample", "at the last sample", "refused with 6",
           "refused with 9", "refused with 14", "ended by the calendar", "ended by ten years", "ended by 14",
           "refused 25", "refused 26", "refused 18", *(name for _, name in READERS)]
 
 
-def write_cases(folder):
-    folder.mkdir(parents=True, exist_ok=True)
-    for number, (name, text) in enumerate(cases(), 1):
-        printed, said = answer(text)
-        stem = folder / ("%03d-%s" % (number, re.sub(r"[^a-z0-9]+", "-", name.lower()).strip("-")))
-        stem.with_suffix(".in").write_bytes(text)
-        stem.with_suffix(".out").write_text(printed)
-        stem.with_suffix(".err").write_text(said)
-
-
-def tell():
-    found = cases()
-    met.clear()
-    for name, text in found:
-        printed, said = answer(text)
-        shown = (printed or said).splitlines()
-        print(f"{name}: {'; '.join(shown[:1] + shown[1:][-1:])}")
-    for name in WANTED:
-        assert met[name] > 0, name
-    print(len(found), "cases;", ", ".join(f"{name} {count}" for name, count in sorted(met.items())))
-
-
-def main():
-    words = argparse.ArgumentParser(description=__doc__, formatter_class=argparse.RawDescriptionHelpFormatter)
-    words.add_argument("--write", nargs=2, metavar=("INPUT", "EXPECTED"))
-    words.add_argument("--cases", metavar="FOLDER")
-    words = words.parse_args()
-    if words.write:
-        Path(words.write[0]).write_bytes(main_case())
-        Path(words.write[1]).write_text(answer(main_case())[0])
-    elif words.cases:
-        write_cases(Path(words.cases))
-    else:
-        tell()
-
-
 if __name__ == "__main__":
-    main()
+    case_files.main(sys.modules[__name__])
