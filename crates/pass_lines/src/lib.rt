@@ -1,173 +1,114 @@
-// The lines of `station_passes` behind the pair, from standard input, and its passes on standard output.
-// As in streams, a failure stays marked.
+// The passes of a satellite over a station as lines, and one after the other on standard output. As in
+// streams, a failure stays marked.
 ghost use mathlib.Core.Path.{_≡_};
-ghost use mathlib.Core.Bool.{true, false};
+ghost use mathlib.Core.Bool.{true};
+ghost use Rattle.text.specs.Output.{Put};
+ghost use Rattle.pass_lines.specs.Print.{foundText, passingText};
+use geodetic::Geodetic;
+use geodetic::site_of;
 use instant::Degrees;
 use instant::Instant;
-use line_input::Input;
-use line_input::next_line;
-use line_input::whole_in;
+use opening::opening::Satellite;
 use pass_text::put_pass;
-use station_text::Number;
-use station_text::Start;
-use station_text::Station;
-use station_text::read_decimal;
-use station_text::read_number;
-use station_text::read_start;
-use station_text::read_station;
+use passes::Pass;
+use passes::Passing;
+use passes::next_pass;
+use sightings::look_at;
 use text::put_line;
+use windows::Seconds;
 
-fn tell(text: &[u8]) {
-    io::write_all(libc::STDERR_FILENO, text);
-}
-
-fn tell_bad_line(number: u64) {
-    if number == 3 {
-        tell(b"line 3: no station\n");
-    }
-    if number == 4 {
-        tell(b"line 4: no least elevation\n");
-    }
-    if number == 5 {
-        tell(b"line 5: no start\n");
-    }
-    if number == 6 {
-        tell(b"line 6: no step\n");
-    }
-    if number == 7 {
-        tell(b"line 7: no number of samples\n");
-    }
-}
-
-// ---- The call: latitude, longitude and height, the least elevation, and start, step and number of samples
-// in a row.
-
-fn take_station(line: &[u8], station: &mut [f64; 3]) -> bool {
-    match read_station(line) {
-        Station::At { x, y, z } => {
-            station[0] = x;
-            station[1] = y;
-            station[2] = z;
-            true
-        }
-        Station::Unread => false,
-    }
-}
-
-fn take_start(line: &[u8], start: &mut u64) -> bool {
-    match read_start(line) {
-        Start::At(t) => {
-            *start = t.0;
-            true
-        }
-        Start::Unread => false,
-    }
-}
-
-fn take_number(line: &[u8], out: &mut u64) -> bool {
-    match read_number(line) {
-        Number::Is(n) => {
-            *out = n;
-            true
-        }
-        Number::Unread => false,
-    }
-}
-
-fn take_decimal(line: &[u8], out: &mut f64) -> bool {
-    let d = read_decimal(line);
-    if d.good {
-        *out = d.value;
-    }
-    d.good
-}
-
-// What the line of so many bytes in its room says, into its place; whether it has its form.
-fn take(
-    number: u64,
-    room: &[u8],
-    size: usize,
-    station: &mut [f64; 3],
-    least: &mut f64,
-    row: &mut [u64; 3],
-) -> bool {
-    let n = whole_in(size, room);
-    let line = &room[..n];
-    if number == 3 {
-        return take_station(line, station);
-    }
-    if number == 4 {
-        return take_decimal(line, least);
-    }
-    if number == 5 {
-        return take_start(line, &mut row[0]);
-    }
-    if number == 6 {
-        return take_number(line, &mut row[1]);
-    }
-    take_number(line, &mut row[2])
-}
-
-// Lines 3 to 7, the bad ones named; whether none is bad. A line that the input does not have is empty, and
-// so is one that is longer than its room.
-pub fn read_call(
-    failed: &mut bool,
-    input: Input,
-    buffer: &mut [u8; 4096],
-    line: &mut [u8; 4096],
-    station: &mut [f64; 3],
-    least: &mut f64,
-    row: &mut [u64; 3],
-) -> bool
-    ensures { λ good. ⌜ (now (failed .entry) ≡ true → now (failed .exit) ≡ true) × (now (failed .exit) ≡ true → good ≡ false) ⌝ }
+// The line of a pass: when it rises and sets and in which direction, when it is highest and how high.
+pub fn put_found(
+    out: &mut [u8],
+    at: usize,
+    satellite: Satellite,
+    station: Geodetic,
+    p: Pass,
+) -> usize
+    ensures { λ n. ⌜ Put (now (out .entry)) at (foundText satellite station p) (now (out .exit)) n ⌝ }
 {
-    let mut input = input;
-    let mut good = true;
-    let mut number = 3;
-    while number < 8 {
-        let next = next_line(failed, input, buffer, line);
-        if *failed {
-            return false;
-        }
-        if !take(number, line, next.size, station, least, row) {
-            tell_bad_line(number);
-            good = false;
-        }
-        input = next.input;
-        number += 1;
-    }
-    good
+    let site = site_of(station);
+    let rise = p.rise;
+    let highest = p.highest;
+    let set = p.set;
+    let first = look_at(satellite, site, rise);
+    let top = look_at(satellite, site, highest);
+    let last = look_at(satellite, site, set);
+    let from = first.azimuth;
+    let elevation = top.elevation;
+    let to = last.azimuth;
+    put_pass(
+        out,
+        at,
+        p.begun,
+        rise,
+        from,
+        highest,
+        elevation,
+        p.still,
+        set,
+        to,
+    )
 }
 
-// ---- The answer.
+// The line of an answer behind so many passes: the last one tells how many there were.
+pub fn put_passing(
+    out: &mut [u8],
+    at: usize,
+    satellite: Satellite,
+    station: Geodetic,
+    count: u64,
+    found: Passing,
+) -> usize
+    ensures { λ n. ⌜ Put (now (out .entry)) at (passingText satellite station count found) (now (out .exit)) n ⌝ }
+{
+    match found {
+        Passing::Found(p) => put_found(out, at, satellite, station, p),
+        Passing::Nothing => put_line(out, at, b"passes ", count),
+        Passing::Refused(n) => put_line(out, at, b"refused ", n as u64),
+    }
+}
 
-pub fn print_pass(
+fn print_passing(
     failed: &mut bool,
-    begun: bool,
-    rise: Instant,
-    from: Degrees,
-    highest: Instant,
-    top: Degrees,
-    still: bool,
-    set: Instant,
-    to: Degrees,
+    satellite: Satellite,
+    station: Geodetic,
+    count: u64,
+    found: Passing,
 )
     ensures { λ _. ⌜ (now (failed .entry) ≡ true → now (failed .exit) ≡ true) ⌝ }
 {
     let mut out = [0u8; 256];
-    let n = put_pass(&mut out, 0, begun, rise, from, highest, top, still, set, to);
+    let n = put_passing(&mut out, 0, satellite, station, count, found);
     if n <= 256 {
         streams::print(failed, &out[0..n]);
     }
 }
 
-// How many passes were printed.
-pub fn print_count(failed: &mut bool, passes: u64)
+// One pass after the other on standard output. Each has a sample at least, so that there are no more than
+// samples.
+pub fn print_passes(
+    failed: &mut bool,
+    satellite: Satellite,
+    station: Geodetic,
+    least: Degrees,
+    start: u64,
+    step: u64,
+    samples: u32,
+)
     ensures { λ _. ⌜ (now (failed .entry) ≡ true → now (failed .exit) ≡ true) ⌝ }
 {
-    let mut out = [0u8; 64];
-    let n = put_line(&mut out, 0, b"passes ", passes);
-    if n <= 64 {
-        streams::print(failed, &out[0..n]);
+    let mut t = start;
+    let mut left = samples;
+    let mut count = 0u64;
+    while count < 4294967295 {
+        let found = next_pass(satellite, station, least, Instant(t), Seconds(step), left);
+        print_passing(failed, satellite, station, count, found);
+        let Passing::Found(p) = found else {
+            return;
+        };
+        t = p.next.0;
+        left = p.left;
+        count += 1;
     }
 }

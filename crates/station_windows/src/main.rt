@@ -1,52 +1,20 @@
-// Prints when a satellite is above a station (document 02, wish 10). Standard input has six lines: the
-// pair; the station, Earth-fixed x, y and z in km; the start as year, day and microseconds; the step in
-// seconds; and the number of samples. Printed is a line for each window, with its first and its last
-// instant and its number of samples, and the strides; or `refused` and the number. Bad lines are named on
-// standard error, and then nothing is printed.
-use lent_windows::windows_held;
+// Prints when a satellite is above a station (document 02, wish 10; passes). Standard input has six lines:
+// the pair; the station; the start as year, day and microseconds; the step in seconds; and the number of
+// samples. For a station as Earth-fixed x, y and z in km, a line is printed for each window, with its first
+// and its last instant and its number of samples, and the strides. For `geodetic`, latitude and longitude in
+// degrees, height in metres on the WGS-84 ellipsoid and least elevation in degrees, it is a line for each
+// pass and the number of passes. Or `refused` and the number. Bad lines are named on standard error, and
+// then nothing is printed.
 use opening_input::read_pair;
 use printing::print_refused;
-use station_lines::print_strides;
-use station_lines::print_windows;
+use station_answers::answer;
 use station_lines::read_call;
-
-// The windows of the satellite in memory; `row` has the start, the step and the number of samples. An answer has its refusal in bits 0-7, the number of windows in
-// bits 16-31 and the strides above.
-fn answer(
-    failed: &mut bool,
-    numbers: &mut [f64; 83],
-    marks: &mut [u32; 6],
-    station: &[f64; 3],
-    row: &[u64; 3],
-) {
-    let mut firsts = [0u64; 512];
-    let mut lasts = [0u64; 512];
-    let step = row[1];
-    let samples = row[2] as usize;
-    let a = windows_held(
-        numbers,
-        marks,
-        station,
-        row[0],
-        step,
-        samples,
-        &mut firsts,
-        &mut lasts,
-    );
-    if a % 256 != 0 {
-        print_refused(failed, a % 256);
-        return;
-    }
-    print_windows(failed, &firsts, &lasts, a / 65536 % 65536, step);
-    print_strides(failed, a / 4294967296);
-}
+use station_lines::tell_faults;
 
 fn main() {
     let mut failed = false;
     let mut numbers = [0f64; 83];
     let mut marks = [0u32; 6];
-    let mut station = [0f64; 3];
-    let mut row = [0u64; 3];
     let mut buffer = io::buffer();
     let mut line = [0u8; 4096];
     let mut first = [0u8; 70];
@@ -59,20 +27,16 @@ fn main() {
         &mut marks,
     );
     let input = pair.input;
-    let good = read_call(
-        &mut failed,
-        input,
-        &mut buffer,
-        &mut line,
-        &mut station,
-        &mut row,
-    );
-    if !good {
+    let call = read_call(&mut failed, input, &mut buffer);
+    if failed {
+        return;
+    }
+    if !tell_faults(call) {
         return;
     }
     if pair.refusal != 0 {
         print_refused(&mut failed, pair.refusal);
         return;
     }
-    answer(&mut failed, &mut numbers, &mut marks, &station, &row);
+    answer(&mut failed, &mut numbers, &mut marks, call);
 }

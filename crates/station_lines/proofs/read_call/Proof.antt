@@ -1,40 +1,32 @@
-use Prim.Native.Nat.{_-_, _≤_, _<_}
-use mathlib.Core.Path.{_≡_, refl, sym, _∙_}
-use mathlib.Core.Bool.{Bool, true, false}
-use native.Mathlib.Omega.{arith}
 use borrow.Author.Needs.{needs}
 use Rattle.station_lines.proofs.read_call.Statement.{statement}
 use Rattle.station_lines.proofs.read_call.Tie as tie
 
--- behind the first line nothing has failed
-abbrev Inv-loop : tie.InvT-loop
-Inv-loop failed₀ buffer₀ line₀ station₀ row₀ input₀ good₀ number₀ failed buffer line station row input good number =
-    ((3 ≤ number) × (number ≤ 7)) × (failed₀ ≡ true → failed ≡ true) × (3 < number → failed ≡ false)
+-- where line 5 was read, line 4 and line 3
+abbrev step-read : tie.After-whole-in4 → tie.After-whole-in3
+step-read c = c .before .before .before .before .before .before .before
 
-abbrev μ-loop : tie.MeasureT-loop
-μ-loop failed₀ buffer₀ line₀ station₀ row₀ input₀ good₀ number₀ failed buffer line station row input good number = 7 - number
+abbrev start-read : tie.After-whole-in4 → tie.After-whole-in2
+start-read c = step-read c .before .before .before .before .before .before .before .before
 
-loop-holds : tie.Need-loop-holds Inv-loop μ-loop
-loop-holds c = (search needs, λ h. h, λ h. absurd (omega (arith, h)))
+abbrev place-read : tie.After-whole-in4 → tie.After-whole-in
+place-read c = start-read c .before .before .before .before .before .before .before .before
 
-returns : tie.Need-returns Inv-loop μ-loop
-returns c = (λ h. c .if1 .taken, λ h. refl)
-
-loop-again : tie.Need-loop-again Inv-loop μ-loop
-loop-again c =
-    let i = c .before .before .before .before .before .before .before in
-    let n = i .before in
-    let l = n .before .before .before .before .before .loop in
-    (search needs, λ h. n .next-line .ensures .marked (l .inv .1 h), λ h. i .if1 .left)
-
-returns-2 : tie.Need-returns-2 Inv-loop μ-loop
-returns-2 c =
-    let l = c .before .loop in
-    (l .inv .1, λ h. let z : _≡_ {A = Bool} true false = sym h ∙ l .inv .2 (omega arith) in cc)
+returns : tie.Need-returns
+returns c =
+    let d = c .before .before .before .before .before in
+    λ h. d .before .before .before .next-line4 .ensures .marked
+    (step-read d .before .before .before .before .next-line3 .ensures .marked
+    (start-read d .before .before .before .before .next-line2 .ensures .marked
+    (place-read d .before .before .before .before .next-line .ensures .marked h)))
 
 pub read-call-spec : {M : Type 1} → statement M
 read-call-spec =
     tie.close
     (tie.spec
-    Inv-loop μ-loop loop-holds (λ c κs. search needs) returns (λ c κs. search needs) (λ c κs. search needs) (λ c. search needs)
-    (λ c. search needs) loop-again returns-2)
+    (λ c. search needs) (λ c κs. search needs) (λ c. search needs) (λ c κs. search needs) (λ c. search needs) (λ c κs. search needs)
+    (λ c. search needs) (λ c κs. search needs) (λ c. search needs) (λ c κs. search needs) (λ c. search needs) (λ c κs. search needs)
+    (λ c. search needs) (λ c κs. search needs) (λ c. search needs) (λ c κs. search needs)
+    (λ c. place-read c .whole-in .ensures .1 .0) (λ c. place-read (c .before) .whole-in .ensures .1 .1)
+    (λ c. start-read (c .before) .whole-in2 .ensures .1 .0) (λ c. start-read (c .before .before) .whole-in2 .ensures .1 .1)
+    (λ c. search needs) (λ c. search needs) (λ c. search needs) (λ c. search needs) (λ c κs. search needs) returns)

@@ -3,8 +3,8 @@ use mathlib.Core.Path.{_≡_}
 use mathlib.Core.Bool.{true}
 use native.Mathlib.Omega.{arith}
 use borrow.Author.Needs.{needs}
-use Rattle.station_lines.proofs.print_windows.Statement.{statement}
-use Rattle.station_lines.proofs.print_windows.Tie as tie
+use Rattle.station_answers.proofs.print_windows.Statement.{statement}
+use Rattle.station_answers.proofs.print_windows.Tie as tie
 
 abbrev Inv-loop : tie.InvT-loop
 Inv-loop failed₀ firsts lasts count step i₀ failed i = (i ≤ 512) × (failed₀ ≡ true → failed ≡ true)

@@ -1,19 +1,18 @@
 #!/usr/bin/env python3
-"""What station_passes reads, and the passes that it has to print.
+"""What station_windows reads for a geodetic station, and the passes that it has to print.
 
 Written from the program's description: a station on the WGS-84 ellipsoid, up its normal,
 passes found among samples, their edges to the microsecond, their highest points. Positions
-come from near_earth.py, the Greenwich angle from station_windows.py; the station is placed
-by its reduced latitude, and highest points are sought by samples of their own. These have
-digits of their own: edges are held to a millisecond, highest points to a tenth of a second,
-angles to what their three places show. Refusals and bad lines are held byte for byte.
+come from near_earth.py, the other lines and the Greenwich angle from station_windows.py; the
+station is placed by its reduced latitude, and highest points are sought by samples of their
+own. These have digits of their own: edges are held to a millisecond, highest points to a tenth
+of a second, angles to what their three places show. Refusals and bad lines are held byte for
+byte, and the stored case too.
 
-  station_passes.py --write INPUT
-      writes what the program is run on.
-  station_passes.py --hold PROGRAM
-      runs the program on every case, and counts.
-  station_passes.py --hold-output INPUT OUTPUT
-      holds a stored output to what is due.
+  geodetic_passes.py --write INPUT
+      writes the input of the stored case.
+  geodetic_passes.py --hold PROGRAM
+      holds the stored case to what is due, runs the program on every case, and counts.
 """
 
 import argparse
@@ -30,9 +29,11 @@ from pathlib import Path
 sys.dont_write_bytecode = True
 from near_earth import Near
 from report_texts import LOW, REFUSED, epoch, kind
-from station_windows import DAY, END, FARTHEST, KEPT, LATE, SET, begins, earth_fixed, read_start, split, whole
+from station_windows import DAY, END, FARTHEST, KEPT, LATE, LONGEST, READERS, SET, begins, earth_fixed
+from station_windows import asked as asked_of
 from tle_pairs import judge
 
+STORED = Path(__file__).resolve().parent / "passes"     # .in and .out
 RADIUS, FLATTENING = 6378.137, 1 / 298.257223563
 EDGE, TOP, ANGLE = 0.001, 0.1, 0.0012      # seconds, seconds, degrees
 
@@ -123,15 +124,17 @@ def passes(sky, least, start, step, samples):
 # ------------------------------------------------------------------ the program's lines
 
 
-def decimals(line, count):
-    words = line.split(b" ")
-    if len(words) != count or not all(re.fullmatch(rb"-?[0-9]{1,9}(\.[0-9]{1,6})?", word) for word in words):
+def read_station(line):
+    """Latitude, longitude, height and least elevation behind the word, or None."""
+    word, *numbers = line.split(b" ")
+    if word != b"geodetic" or len(numbers) != 4:
         return None
-    return [float(word) for word in words]
+    if not all(re.fullmatch(rb"-?[0-9]{1,9}(\.[0-9]{1,6})?", number) for number in numbers):
+        return None
+    return [float(number) for number in numbers]
 
 
-READERS = [(lambda line: decimals(line, 3), "no station"), (lambda line: decimals(line, 1), "no least elevation"),
-           (read_start, "no start"), (whole, "no step"), (whole, "no number of samples")]
+READERS = [(read_station, "no station"), *READERS[1:]]
 
 
 def refusal(station, least, step):
@@ -143,11 +146,11 @@ def refusal(station, least, step):
 
 def due(text):
     """Standard output, as text or as a sky with its passes, and standard error."""
-    lines = (text.split(b"\n") + [b""] * 7)[:7]
+    lines = (text.split(b"\n") + [b""] * 6)[:6]
     values, said = [], ""
     for number, (reader, name) in enumerate(READERS, 3):
         line = lines[number - 1]
-        values.append(None if len(line) > 4096 else reader(line))
+        values.append(None if len(line) > LONGEST else reader(line))
         if values[-1] is None:
             said += f"line {number}: {name}\n"
             met[name] += 1
@@ -158,7 +161,7 @@ def due(text):
         return judged[:len("refused 1")] + "\n", ""
     if kind(lines[1]) == "unopened":
         return "refused 7\n", ""
-    station, (least,), start, step, samples = values
+    (*station, least), start, step, samples = values
     if number := refusal(station, least, step):
         met[f"refused {number}"] += 1
         return f"refused {number}\n", ""
@@ -206,10 +209,7 @@ GREENWICH = "51.4779 -0.0015 46"
 
 
 def asked(lines, station, least, start, step, samples):
-    if isinstance(start, int):
-        start = "%d %d %d" % split(start)
-    rest = [station, least, start, step, samples]
-    return b"".join(line + b"\n" for line in [*lines, *(str(word).encode() for word in rest)])
+    return asked_of(lines, f"geodetic {station} {least}", start, step, samples)
 
 
 def main_case():
@@ -260,12 +260,16 @@ def refused():
 
 def bad_lines():
     near = SET[6251]
-    good = [GREENWICH, "10", "2006 177 0", "60", "100"]
-    for place, words in enumerate((("", "1 2", "1 2 3 4", "+1 2 3", "N51 0 0"), ("", "x", "1 2", "10.", ".5", "1e1", "10\r"),
-                                   ("", "2006-06-26", "2006 366 0"), ("", "6O", "-60"), ("", "1.5", " 7"))):
+    good = [f"geodetic {GREENWICH} 10", "2006 177 0", "60", "100"]
+    stations = ["geodetic" + rest for rest in ("", " ", " 1 2 3", " 1 2 3 4 5", " +1 2 3 4", " N51 0 0 10", "  1 2 3 4", " 1 2  3 4", " 1 2 3 4 ",
+                                               "s 1 2 3 4", "\t1 2 3 4", " 1 2 3 x", " 1 2 3 10.", " 1 2 3 .5", " 1 2 3 1e1", " 1 2 3 10\r",
+                                               " 1234567890 2 3 4", " 1 2 3.0000000 4", " - 2 3 4", " 1,5 2 3 4")]
+    stations += ["", "1 2", "1 2 3 4", "+1 2 3", "N51 0 0", GREENWICH + " 10", "Geodetic 1 2 3 4", " geodetic 1 2 3 4", "1 2 3 geodetic"]
+    for place, words in enumerate((stations, ("", "2006-06-26", "2006 366 0"), ("", "6O", "-60"), ("", "1.5", " 7"))):
         for word in words:
-            yield f"line {place + 3} {word!r}", asked(near, *good[:place], word, *good[place + 1:])
-    yield "all bad", asked(near, "x", "x", "x", "x", "x")
+            yield f"line {place + 3} {word!r}", asked_of(near, *good[:place], word, *good[place + 1:])
+    yield "all bad", asked_of(near, "geodetic x", "x", "x", "x")
+    yield "a station of 5,000 bytes", asked(near, GREENWICH, "10" + " " * 5000, "2006 177 0", 60, 100)
     yield "nothing", b""
     yield "a pair alone", b"\n".join(near) + b"\n"
 
@@ -277,38 +281,42 @@ def cases():
 WANTED = ["passes", "since", "until", "none", "one sample", "edges held", "refused 25", "refused 26", *(name for _, name in READERS)]
 
 
-def hold(program):
-    """How many cases the program does not meet."""
-    failed = 0
-    found = cases()
-    for name, text in found:
+def faults(program):
+    """Each case, and what is wrong with what the program makes of it, or None."""
+    stored, printed = STORED.with_suffix(".in").read_bytes(), STORED.with_suffix(".out").read_text()
+    yield "the stored case", wrong(printed, due(stored)[0])
+    for name, text in cases():
         expected, said = due(text)
         run = subprocess.run([program], input=text, capture_output=True, timeout=600)
         fault = wrong(run.stdout.decode(), expected)
         if run.stderr.decode() != said:
             fault = f"said {run.stderr!r} for {said!r}"
-        if fault:
-            failed += 1
-            print(f"station_passes, {name}: FAILED; {fault}")
+        if text == stored and run.stdout.decode() != printed:
+            fault = "not the stored text"
+        yield name, fault
+
+
+def hold(program):
+    """How many cases the program does not meet."""
+    found = list(faults(program))
+    bad = [(name, fault) for name, fault in found if fault]
+    for name, fault in bad:
+        print(f"geodetic stations, {name}: FAILED; {fault}")
     for name in WANTED:
         assert met[name] > 0, name
-    print(f"{len(found) - failed} passed, {failed} failed")
-    return failed
+    print(f"{len(found) - len(bad)} passed, {len(bad)} failed")
+    return len(bad)
 
 
 def main():
     words = argparse.ArgumentParser(description=__doc__, formatter_class=argparse.RawDescriptionHelpFormatter)
     words.add_argument("--write", metavar="INPUT")
     words.add_argument("--hold", metavar="PROGRAM")
-    words.add_argument("--hold-output", nargs=2, metavar=("INPUT", "OUTPUT"))
     words = words.parse_args()
     if words.write:
         Path(words.write).write_bytes(main_case())
     elif words.hold:
         sys.exit(hold(words.hold) > 0)
-    elif words.hold_output:
-        fault = wrong(Path(words.hold_output[1]).read_text(), due(Path(words.hold_output[0]).read_bytes())[0])
-        sys.exit(fault)
 
 
 if __name__ == "__main__":
