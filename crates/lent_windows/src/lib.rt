@@ -17,7 +17,7 @@ use windows::call_refusal;
 use windows::windows;
 
 // An element of a lent station; not a number where there is none.
-fn element(station: &[f64], i: usize) -> f64
+pub fn element(station: &[f64], i: usize) -> f64
     ensures { λ r. ⌜ r ≡ at (now (station .entry)) i ⌝ }
 {
     if i < station.len() {

@@ -220,8 +220,8 @@ fn search(satellite: Satellite, site: Site, least: f64, step: u64, samples: u32,
     Passing::Nothing
 }
 
-// 25 or 26, or 0.
-fn pass_refusal(station: Geodetic, least: Degrees, step: Seconds) -> u8
+// The refusal of a call, before any sample: 25 or 26, or 0.
+pub fn pass_refusal(station: Geodetic, least: Degrees, step: Seconds) -> u8
     ensures { λ r. ⌜ r ≡ P.passRefusal station (least .0) (step .0) ⌝ }
 {
     let x = least.0;

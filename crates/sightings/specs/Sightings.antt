@@ -16,6 +16,8 @@ use Rattle.sgp4.specs.declared.Row.{Row}
 use Rattle.opening.specs.declared.opening.Satellite.{Satellite}
 use Rattle.requests.specs.Request.{answered}
 use Rattle.sightings.specs.declared.Seen as ss
+use Rattle.sightings.specs.declared.Sighting as gs
+use Rattle.sightings.specs.declared.Sighting.the-variants as sighting
 
 -- ── the sine of the elevation, and the satellite as the request leaves it ──
 
@@ -34,17 +36,26 @@ seenSince site s t elapsed.Outside = record { sine = nadir; satellite = s }
 unfoldable pub seenAt : Site → Satellite → ℕ → ss.Seen
 seenAt site s t = seenSince site s t (sinceOf t (s .model .epoch .0))
 
--- ── azimuth, elevation and range ──
+-- ── azimuth, elevation and range, or why there are none ──
 
-unfoldable pub rowLook : Site → ℕ → Row → Look
-rowLook site t r = cond (eqb (r .refusal) 0) (lookOf site t (r .x ∷ r .y ∷ r .z ∷ [])) down
+-- a row refused gives its refusal
+unfoldable pub rowSighting : Site → ℕ → Row → gs.Sighting
+rowSighting site t r = cond (eqb (r .refusal) 0) (sighting.At (lookOf site t (r .x ∷ r .y ∷ r .z ∷ []))) (sighting.Refused (r .refusal))
 
-unfoldable pub lookAfter : Site → Satellite → ℕ → ℤ → Look
-lookAfter site s t d = rowLook site t (answered s d .row)
+unfoldable pub sightedAfter : Site → Satellite → ℕ → ℤ → gs.Sighting
+sightedAfter site s t d = rowSighting site t (answered s d .row)
 
-unfoldable pub lookSince : Site → Satellite → ℕ → Elapsed → Look
-lookSince site s t (elapsed.Is d) = lookAfter site s t (d .0)
-lookSince site s t elapsed.Outside = down
+-- "6": the instant or the epoch lies outside the calendar
+unfoldable pub sightedSince : Site → Satellite → ℕ → Elapsed → gs.Sighting
+sightedSince site s t (elapsed.Is d) = sightedAfter site s t (d .0)
+sightedSince site s t elapsed.Outside = sighting.Refused 6
+
+unfoldable pub sightedAt : Site → Satellite → ℕ → gs.Sighting
+sightedAt site s t = sightedSince site s t (sinceOf t (s .model .epoch .0))
+
+unfoldable pub shown : gs.Sighting → Look
+shown (sighting.At look) = look
+shown (sighting.Refused r) = down
 
 unfoldable pub lookAt : Site → Satellite → ℕ → Look
-lookAt site s t = lookSince site s t (sinceOf t (s .model .epoch .0))
+lookAt site s t = shown (sightedAt site s t)

@@ -56,31 +56,50 @@ pub fn seen_at(satellite: Satellite, site: Site, t: Instant) -> Seen
     }
 }
 
-fn row_look(site: Site, t: Instant, row: Row) -> Look
-    ensures { λ r. ⌜ r ≡ S.rowLook site (t .0) row ⌝ }
-{
-    if row.refusal != 0 {
-        return straight_down();
-    }
-    look_angles(site, t, [row.x, row.y, row.z])
+// Azimuth, elevation and range, or the refusal of the row; 6 where the instant or the epoch lies outside
+// the calendar.
+pub enum Sighting {
+    At(Look),
+    Refused(u8),
 }
 
-fn look_since(satellite: Satellite, site: Site, t: Instant, time: Microseconds) -> Look
-    ensures { λ r. ⌜ r ≡ S.lookAfter site satellite (t .0) (time .0) ⌝ }
+fn row_sighting(site: Site, t: Instant, row: Row) -> Sighting
+    ensures { λ r. ⌜ r ≡ S.rowSighting site (t .0) row ⌝ }
+{
+    let refusal = row.refusal;
+    if refusal != 0 {
+        return Sighting::Refused(refusal);
+    }
+    Sighting::At(look_angles(site, t, [row.x, row.y, row.z]))
+}
+
+fn sighted_since(satellite: Satellite, site: Site, t: Instant, time: Microseconds) -> Sighting
+    ensures { λ r. ⌜ r ≡ S.sightedAfter site satellite (t .0) (time .0) ⌝ }
 {
     let a = request(satellite, time);
     let row = a.row;
-    row_look(site, t, row)
+    row_sighting(site, t, row)
+}
+
+// A satellite at an instant. It is not changed.
+pub fn sighted(satellite: Satellite, site: Site, t: Instant) -> Sighting
+    ensures { λ r. ⌜ r ≡ S.sightedAt site satellite (t .0) ⌝ }
+{
+    let epoch = satellite.model.epoch;
+    let elapsed = since(t, epoch);
+    match elapsed {
+        Elapsed::Is(time) => sighted_since(satellite, site, t, time),
+        Elapsed::Outside => Sighting::Refused(6),
+    }
 }
 
 // Azimuth, elevation and range of a satellite at an instant.
 pub fn look_at(satellite: Satellite, site: Site, t: Instant) -> Look
     ensures { λ r. ⌜ r ≡ S.lookAt site satellite (t .0) ⌝ }
 {
-    let epoch = satellite.model.epoch;
-    let elapsed = since(t, epoch);
-    match elapsed {
-        Elapsed::Is(time) => look_since(satellite, site, t, time),
-        Elapsed::Outside => straight_down(),
+    let seen = sighted(satellite, site, t);
+    match seen {
+        Sighting::At(look) => look,
+        Sighting::Refused(_) => straight_down(),
     }
 }
