@@ -23,6 +23,9 @@ ghost use Rattle.lent_pairs.specs.Roster.{lodgingAnswer, withdrawalAnswer, fill
 ghost use Rattle.lent_opening.specs.Opening as O;
 ghost use Rattle.lent_requests.specs.Requests as R;
 ghost use Rattle.lent_windows.specs.Windows as W;
+ghost use Rattle.requests.specs.Lists.{over};
+ghost use Rattle.lent_passes.specs.Passes.{passingHeld, passAnswer, passInstants};
+ghost use Rattle.lent_passes.specs.Looks.{sightingHeld, lookAnswer, lookNumbers};
 ghost use Rattle.award.specs.Plan.{answerOf};
 ghost use Rattle.lent_award.specs.Answer.{awardAnswer};
 ghost use Rattle.outward_order.specs.Order.{bestOrder};
@@ -49,6 +52,8 @@ use lent_pairs::read_answer;
 use lent_pairs::record_answer;
 use lent_pairs::withdraw_answer;
 use lent_pairs::write_answer;
+use lent_passes::look_held;
+use lent_passes::next_pass_held;
 use lent_requests::request_held;
 use lent_requests::request_list_held;
 use lent_windows::windows_held;
@@ -259,6 +264,41 @@ pub extern "C" fn saddlekerf_windows(
     ensures { λ r. ⌜ W.WindowsPost (now (numbers .entry)) (now (marks .entry)) (now (station .entry)) start step samples (now (firsts .entry)) (now (lasts .entry)) r (now (numbers .exit)) (now (marks .exit)) (now (firsts .exit)) (now (lasts .exit)) ⌝ }
 {
     windows_held(numbers, marks, station, start, step, samples, firsts, lasts)
+}
+
+// Asks the satellite in memory for its next pass over a station (latitude and longitude in degrees, height
+// in metres, least elevation in degrees): rise, highest point, set and the next call's start at the front
+// of `pass`.
+#[no_mangle]
+pub extern "C" fn saddlekerf_next_pass(
+    numbers: &[f64],
+    marks: &[u32],
+    station: &[f64],
+    start: u64,
+    step: u64,
+    samples: u32,
+    pass: &mut [u64],
+) -> u64
+    ensures { λ r. ⌜ r ≡ passAnswer (passingHeld (now (numbers .entry)) (now (marks .entry)) (now (station .entry)) start step samples (length (now (pass .entry)))) ⌝ }
+    ensures { λ _. ⌜ now (pass .exit) ≡ over (passInstants (passingHeld (now (numbers .entry)) (now (marks .entry)) (now (station .entry)) start step samples (length (now (pass .entry))))) (now (pass .entry)) ⌝ }
+{
+    next_pass_held(numbers, marks, station, start, step, samples, pass)
+}
+
+// Asks where the satellite in memory stands at an instant, seen from a station: azimuth, elevation and
+// range at the front of `look`.
+#[no_mangle]
+pub extern "C" fn saddlekerf_look(
+    numbers: &[f64],
+    marks: &[u32],
+    station: &[f64],
+    instant: u64,
+    look: &mut [f64],
+) -> u64
+    ensures { λ r. ⌜ r ≡ lookAnswer (sightingHeld (now (numbers .entry)) (now (marks .entry)) (now (station .entry)) instant (length (now (look .entry)))) ⌝ }
+    ensures { λ _. ⌜ now (look .exit) ≡ over (lookNumbers (sightingHeld (now (numbers .entry)) (now (marks .entry)) (now (station .entry)) instant (length (now (look .entry))))) (now (look .entry)) ⌝ }
+{
+    look_held(numbers, marks, station, instant, look)
 }
 
 // Puts a list of times in the order that takes the fewest strides of a newly opened satellite.

@@ -12,4 +12,4 @@ returns c =
 
 pub saddlekerf-request-spec : {M : Type 1} → statement M
 saddlekerf-request-spec =
-    tie.close (tie.spec (λ c κs. search needs) (λ c. search needs) (λ c. search needs) (λ c. search needs) returns)
+    tie.close (tie.spec (λ c κs. tt) (λ c. search needs) (λ c. search needs) (λ c. search needs) returns)
