@@ -56,7 +56,8 @@
  *   Every call returns. Only a resonant satellite takes strides: a request at most 7,304 of them (a
  *   time 3,652 days away, some 1.5 ms), a list at most 7,479,296 (1,024 such times, each on the other
  *   side of the epoch than the one before, some 1.5 s). saddlekerf_strides tells how many were taken.
- *   A call for windows takes those of its samples as a list.
+ *   A call for windows takes those of its samples as a list; a call for a pass those of its samples, and
+ *   of the instants at which it looks for the edges and the highest point, from where the satellite is.
  *   A call on a roster judges all its pairs, some 30 microseconds for 64; listing what changed between
  *   two full ones takes some 90.
  *   No function needs more than SADDLEKERF_STACK bytes of stack, beside what memcpy and memset take.
@@ -75,9 +76,11 @@
  *     bits  8-15  line 1 or 2 (refusals 1-4); roster 1 or 2 (refusal 22 of saddlekerf_changes); rounds of
  *                 Kepler's equation (saddlekerf_request)
  *     bits 16-31  column, counted from 1 (refusal 3); field (refusal 6 of lines); windows
- *                 (saddlekerf_windows); offer (refusal 27) or entry (refusals 28-30), counted from 0
+ *                 (saddlekerf_windows); offer (refusal 27) or entry (refusals 28-30), counted from 0;
+ *                 of saddlekerf_next_pass 1 for a pass, + 2 where it was above at the first sample, + 4
+ *                 where it was at the last
  *     bits 32-63  bytes written (saddlekerf_print, saddlekerf_write, saddlekerf_changes); integrator
- *                 strides (requests, saddlekerf_windows)
+ *                 strides (requests, saddlekerf_windows); samples left (saddlekerf_next_pass)
  *
  *   What is not named for a function and a refusal is 0. The functions below take an answer apart.
  */
@@ -110,6 +113,14 @@ extern "C" {
 /* The most samples of one call for windows, and its longest step in seconds. */
 #define SADDLEKERF_SAMPLES_LIMIT 1024
 #define SADDLEKERF_STEP_LIMIT 86400
+
+/*
+ * Elements of a pass (enum saddlekerf_pass_instant), of a look (enum saddlekerf_look_number) and of a
+ * geodetic station (enum saddlekerf_station_number).
+ */
+#define SADDLEKERF_PASS 4
+#define SADDLEKERF_LOOK 3
+#define SADDLEKERF_GEODETIC 4
 
 /* The farthest time from the epoch, in microseconds. */
 #define SADDLEKERF_TIME_LIMIT INT64_C(315532800000000)
@@ -173,7 +184,8 @@ enum saddlekerf_refusal_number {
                                              another length or disagrees with the pairs */
     SADDLEKERF_PAIRS = 23,                /* a text of more than 4,096 whole pairs */
     SADDLEKERF_ODD = 24,                  /* a text with an odd number of lines */
-    SADDLEKERF_STATION = 25,              /* a station that is zero or not finite */
+    SADDLEKERF_STATION = 25,              /* a station that is zero or not finite; a geodetic one, or a least
+                                             elevation, out of range */
     SADDLEKERF_STEP = 26,                 /* a step of 0 or more than 86,400 s */
     SADDLEKERF_OFFER = 27,                /* an offer outside the calendar, whose end is not after its start
                                              or whose bid is too large */
@@ -251,6 +263,29 @@ enum saddlekerf_offer_number {
     SADDLEKERF_OFFER_BID = 3              /* whole cents */
 };
 
+/* The instants of a pass. */
+enum saddlekerf_pass_instant {
+    SADDLEKERF_PASS_RISE = 0,             /* above, and a microsecond before not */
+    SADDLEKERF_PASS_HIGHEST = 1,
+    SADDLEKERF_PASS_SET = 2,              /* above, and a microsecond after not */
+    SADDLEKERF_PASS_NEXT = 3              /* where the next call goes on */
+};
+
+/* The numbers of a station on the WGS-84 ellipsoid. */
+enum saddlekerf_station_number {
+    SADDLEKERF_STATION_LATITUDE = 0,      /* geodetic, degrees, -90 to 90, positive to the north */
+    SADDLEKERF_STATION_LONGITUDE = 1,     /* degrees, -180 to 360, positive to the east */
+    SADDLEKERF_STATION_HEIGHT = 2,        /* above the ellipsoid, metres, -10,000 to 100,000 */
+    SADDLEKERF_STATION_LEAST = 3          /* the least elevation of a pass, degrees, 0 to 90 */
+};
+
+/* The numbers of a look. */
+enum saddlekerf_look_number {
+    SADDLEKERF_LOOK_AZIMUTH = 0,          /* degrees from north by east */
+    SADDLEKERF_LOOK_ELEVATION = 1,        /* degrees above the plane across the ellipsoid's normal */
+    SADDLEKERF_LOOK_RANGE = 2             /* km */
+};
+
 /* ---- the archive and the thread ---- */
 
 /* The archive's version, as SADDLEKERF_VERSION. */
@@ -285,6 +320,10 @@ static inline unsigned saddlekerf_field(uint64_t answer) { return (unsigned)(ans
 static inline unsigned saddlekerf_window_count(uint64_t answer) { return (unsigned)(answer >> 16 & 65535); }
 static inline unsigned saddlekerf_place(uint64_t answer) { return (unsigned)(answer >> 16 & 65535); }
 static inline uint32_t saddlekerf_strides(uint64_t answer) { return (uint32_t)(answer >> 32); }
+static inline int saddlekerf_found(uint64_t answer) { return (int)(answer >> 16 & 1); }
+static inline int saddlekerf_begun(uint64_t answer) { return (int)(answer >> 17 & 1); }
+static inline int saddlekerf_still(uint64_t answer) { return (int)(answer >> 18 & 1); }
+static inline uint32_t saddlekerf_samples_left(uint64_t answer) { return (uint32_t)(answer >> 32); }
 static inline uint32_t saddlekerf_written(uint64_t answer) { return (uint32_t)(answer >> 32); }
 
 /* ---- lines ---- */
@@ -556,6 +595,40 @@ uint64_t saddlekerf_windows(double *numbers, size_t numbers_length,
                             uint64_t *firsts, size_t firsts_length,
                             uint64_t *lasts, size_t lasts_length);
 
+/*
+ * Asks for the next pass over a station: of the samples start + i * step seconds, i below samples, the
+ * first run that is above the least elevation. station has SADDLEKERF_GEODETIC elements; up is the
+ * ellipsoid's normal, and refraction is left out. Rise and set are refined between two samples to the
+ * microsecond, and the highest point to a millisecond: they go into the first SADDLEKERF_PASS elements
+ * of pass, with the instant at which the next call goes on, with the samples left of the answer; what
+ * lies past them stays. A pass that was above at the first sample (saddlekerf_begun) or at the last
+ * (saddlekerf_still) has that sample's instant for its edge. A sample that is refused is not above, and
+ * samples end with the calendar. A pass between two samples is not seen. The satellite is not changed.
+ * Answer: 0 with whether there is a pass (saddlekerf_found), begun and still, and the samples left; 25
+ * where the station is out of range, a least elevation among it (fewer than four elements count as
+ * that, more are not looked at); 26 where step is 0 or more than 86,400; 17 where pass or the
+ * satellite's memory is too short. Where there is no pass, pass stays.
+ */
+uint64_t saddlekerf_next_pass(const double *numbers, size_t numbers_length,
+                              const uint32_t *marks, size_t marks_length,
+                              const double *station, size_t station_length,
+                              uint64_t start, uint64_t step, uint32_t samples,
+                              uint64_t *pass, size_t pass_length);
+
+/*
+ * Where the satellite stands at an instant, seen from a station: azimuth, elevation and range go into
+ * the first SADDLEKERF_LOOK elements of look; what lies past them stays. station has latitude,
+ * longitude and height; more elements are not looked at. The satellite is not changed.
+ * Answer: 0; 25 where the station is out of range or has fewer than three elements; 17 where look or
+ * the satellite's memory is too short; 6 (with no field) where the instant, or the epoch that the
+ * satellite keeps, lies outside 1957-2056; 9-15 as saddlekerf_request.
+ */
+uint64_t saddlekerf_look(const double *numbers, size_t numbers_length,
+                         const uint32_t *marks, size_t marks_length,
+                         const double *station, size_t station_length,
+                         uint64_t instant,
+                         double *look, size_t look_length);
+
 /* ---- the same on a struct ---- */
 
 typedef struct saddlekerf_satellite {
@@ -595,6 +668,23 @@ static inline uint64_t saddlekerf_satellite_windows(saddlekerf_satellite *s, con
 {
     return saddlekerf_windows(s->numbers, SADDLEKERF_NUMBERS, s->marks, SADDLEKERF_MARKS,
                               station, 3, start, step, samples, firsts, places, lasts, places);
+}
+
+/* station has SADDLEKERF_GEODETIC elements, pass SADDLEKERF_PASS */
+static inline uint64_t saddlekerf_satellite_next_pass(const saddlekerf_satellite *s, const double *station,
+                                                      uint64_t start, uint64_t step, uint32_t samples,
+                                                      uint64_t *pass)
+{
+    return saddlekerf_next_pass(s->numbers, SADDLEKERF_NUMBERS, s->marks, SADDLEKERF_MARKS,
+                                station, SADDLEKERF_GEODETIC, start, step, samples, pass, SADDLEKERF_PASS);
+}
+
+/* station has three elements, look SADDLEKERF_LOOK */
+static inline uint64_t saddlekerf_satellite_look(const saddlekerf_satellite *s, const double *station,
+                                                 uint64_t instant, double *look)
+{
+    return saddlekerf_look(s->numbers, SADDLEKERF_NUMBERS, s->marks, SADDLEKERF_MARKS,
+                           station, 3, instant, look, SADDLEKERF_LOOK);
 }
 
 /* The instant of the epoch that the satellite keeps. */

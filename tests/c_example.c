@@ -1,6 +1,6 @@
 /*
  * Uses the library from C: reads, prints and opens pairs, reads and writes records, lodges pairs in a
- * roster with its row and withdraws them, lists what changed between two, moves instants, checks an award plan, puts times in order, asks for one time, for lists and for windows, and holds every answer, bit for bit, to document 01's example and to the rows of the
+ * roster with its row and withdraws them, lists what changed between two, moves instants, checks an award plan, puts times in order, asks for one time, for lists, for windows, for passes and where a satellite stands, and holds every answer, bit for bit, to document 01's example and to the rows of the
  * published test set; what memory holds afterwards too, with NaNs in it whose own bits must stay.
  *
  *   c_example bench/vectors/published-rows.txt
@@ -970,6 +970,125 @@ static void ask_windows(void)
     refuse_windows();
 }
 
+/* A pair of the published set with passes over Greenwich, which station_passes prints. */
+static const char PASSING1[] = "1 06251U 62025E   06176.82412014  .00008885  00000-0  12808-3 0  3985";
+static const char PASSING2[] = "2 06251  58.0579  54.0425 0030035 139.1568 221.1854 15.56387291  6774";
+static const double GREENWICH[SADDLEKERF_GEODETIC] = {51.4779, -0.0015, 46.0, 10.0};
+
+static int near_to(double x, double y, double apart)
+{
+    return x - y < apart && y - x < apart;
+}
+
+/* The instant of a microsecond of 2006, day 177 or 178. */
+static uint64_t june(uint64_t day, uint64_t micros)
+{
+    uint64_t instant = 0;
+    CHECK(saddlekerf_instant(2006, day, micros, &instant) == SADDLEKERF_ANSWERED);
+    return instant;
+}
+
+/* The passes of two days above 10 degrees, one call after the other; the first with its sky. */
+static void passes_over_greenwich(void)
+{
+    saddlekerf_satellite s, before;
+    uint64_t pass[SADDLEKERF_PASS + 1] = {1, 2, 3, 4, 5}, start, a;
+    double look[SADDLEKERF_LOOK + 1] = {1.0, 2.0, 3.0, 4.0};
+    uint32_t left = 2880;
+    int passes = 0;
+
+    CHECK(open_lines(&s, PASSING1, PASSING2) == SADDLEKERF_ANSWERED);
+    before = s;
+    start = saddlekerf_satellite_epoch(&s);
+    a = saddlekerf_satellite_next_pass(&s, GREENWICH, start, 60, left, pass);
+    CHECK(pass[SADDLEKERF_PASS_RISE] == june(177, UINT64_C(41048489641)));
+    CHECK(pass[SADDLEKERF_PASS_HIGHEST] == june(177, UINT64_C(41213166311)));
+    CHECK(pass[SADDLEKERF_PASS_SET] == june(177, UINT64_C(41376665876)));
+    CHECK(saddlekerf_satellite_look(&s, GREENWICH, pass[SADDLEKERF_PASS_RISE], look) == SADDLEKERF_ANSWERED);
+    CHECK(near_to(look[SADDLEKERF_LOOK_AZIMUTH], 192.582, 0.0006) && near_to(look[SADDLEKERF_LOOK_ELEVATION], 10.0, 1e-6));
+    CHECK(saddlekerf_satellite_look(&s, GREENWICH, pass[SADDLEKERF_PASS_HIGHEST], look) == SADDLEKERF_ANSWERED);
+    CHECK(near_to(look[SADDLEKERF_LOOK_ELEVATION], 25.886, 0.0006));
+    CHECK(saddlekerf_satellite_look(&s, GREENWICH, pass[SADDLEKERF_PASS_SET], look) == SADDLEKERF_ANSWERED);
+    CHECK(near_to(look[SADDLEKERF_LOOK_AZIMUTH], 75.447, 0.0006) && near_to(look[SADDLEKERF_LOOK_ELEVATION], 10.0, 1e-6));
+    while (saddlekerf_found(a)) {
+        CHECK(saddlekerf_refusal(a) == SADDLEKERF_ANSWERED && !saddlekerf_begun(a) && !saddlekerf_still(a));
+        /* the next sample follows the set */
+        CHECK(pass[SADDLEKERF_PASS_SET] < pass[SADDLEKERF_PASS_NEXT]);
+        CHECK(pass[SADDLEKERF_PASS_NEXT] - pass[SADDLEKERF_PASS_SET] <= 60 * UINT64_C(1000000));
+        left = saddlekerf_samples_left(a);
+        CHECK(start + (2880 - left) * UINT64_C(60000000) == pass[SADDLEKERF_PASS_NEXT]);
+        passes++;
+        a = saddlekerf_satellite_next_pass(&s, GREENWICH, pass[SADDLEKERF_PASS_NEXT], 60, left, pass);
+    }
+    CHECK(a == SADDLEKERF_ANSWERED && passes == 11);
+    /* above at the first sample and at the last: their own instants */
+    start = june(177, UINT64_C(41200000000));
+    a = saddlekerf_satellite_next_pass(&s, GREENWICH, start, 10, 3, pass);
+    CHECK(saddlekerf_found(a) && saddlekerf_begun(a) && saddlekerf_still(a) && saddlekerf_samples_left(a) == 0);
+    CHECK(pass[0] == start && pass[2] == start + 20000000 && pass[3] == start + 30000000);
+    CHECK(near_to((double)(int64_t)(pass[1] - june(177, UINT64_C(41213166311))), 0.0, 2e4));
+    CHECK(memcmp(&s, &before, sizeof s) == 0 && pass[SADDLEKERF_PASS] == 5 && look[SADDLEKERF_LOOK] == 4.0);
+}
+
+/* From the pole up is the frame's own z: range and elevation are those of the row's position. */
+static void look_from_the_pole(void)
+{
+    static const double station[3] = {90.0, 0.0, 0.0};
+    const double polar_radius = 6356.752314245179;
+    saddlekerf_satellite s, copy;
+    double look[SADDLEKERF_LOOK], state[SADDLEKERF_STATE];
+    int i, above = 0;
+
+    CHECK(open_lines(&s, LINE1, LINE2) == SADDLEKERF_ANSWERED);
+    copy = s;
+    for (i = 0; i < 500; i++) {
+        const int64_t time = i * MINUTE;
+        double up, square;
+        CHECK(saddlekerf_refusal(saddlekerf_satellite_request(&copy, time, state)) == SADDLEKERF_ANSWERED);
+        CHECK(saddlekerf_satellite_look(&s, station, saddlekerf_satellite_epoch(&s) + (uint64_t)time, look) == SADDLEKERF_ANSWERED);
+        up = state[2] - polar_radius;
+        square = state[0] * state[0] + state[1] * state[1] + up * up;
+        CHECK(near_to(look[SADDLEKERF_LOOK_RANGE] * look[SADDLEKERF_LOOK_RANGE], square, 1e-3));
+        CHECK((look[SADDLEKERF_LOOK_ELEVATION] > 0.0) == (up > 0.0));
+        CHECK(look[SADDLEKERF_LOOK_AZIMUTH] >= 0.0 && look[SADDLEKERF_LOOK_AZIMUTH] <= 360.0);
+        above += up > 0.0;
+    }
+    CHECK(above == 0);
+}
+
+/* What both calls refuse, in their order, and that they then write nothing. */
+static void refuse_passes(void)
+{
+    double station[SADDLEKERF_GEODETIC] = {51.4779, -0.0015, 46.0, 10.0}, look[SADDLEKERF_LOOK] = {1.0, 2.0, 3.0};
+    uint64_t pass[SADDLEKERF_PASS] = {1, 2, 3, 4}, start;
+    saddlekerf_satellite s, before;
+
+    CHECK(open_lines(&s, PASSING1, PASSING2) == SADDLEKERF_ANSWERED);
+    before = s;
+    start = saddlekerf_satellite_epoch(&s);
+    CHECK(saddlekerf_satellite_next_pass(&s, station, start, 0, 9, pass) == SADDLEKERF_STEP);
+    CHECK(saddlekerf_satellite_next_pass(&s, station, start, SADDLEKERF_STEP_LIMIT + 1, 9, pass) == SADDLEKERF_STEP);
+    CHECK(saddlekerf_satellite_next_pass(&s, station, start, 60, 0, pass) == SADDLEKERF_ANSWERED);
+    CHECK(saddlekerf_next_pass(s.numbers, 83, s.marks, 6, station, 3, start, 0, 9, pass, 0) == SADDLEKERF_STATION);
+    CHECK(saddlekerf_next_pass(s.numbers, 83, s.marks, 6, station, 4, start, 0, 9, pass, 3) == SADDLEKERF_STEP);
+    CHECK(saddlekerf_next_pass(s.numbers, 83, s.marks, 6, station, 4, start, 60, 2880, pass, 3) == SADDLEKERF_ROOM);
+    CHECK(saddlekerf_next_pass(s.numbers, 82, s.marks, 6, station, 4, start, 60, 2880, pass, 4) == SADDLEKERF_ROOM);
+    CHECK(saddlekerf_next_pass(NULL, 0, NULL, 0, NULL, 0, start, 60, 2880, NULL, 0) == SADDLEKERF_STATION);
+    CHECK(saddlekerf_look(s.numbers, 83, s.marks, 6, station, 2, CALENDAR_END, look, 0) == SADDLEKERF_STATION);
+    CHECK(saddlekerf_look(s.numbers, 83, s.marks, 6, station, 3, CALENDAR_END, look, 2) == SADDLEKERF_ROOM);
+    CHECK(saddlekerf_look(s.numbers, 83, s.marks, 5, station, 3, start, look, 3) == SADDLEKERF_ROOM);
+    CHECK(saddlekerf_look(NULL, 0, NULL, 0, NULL, 0, start, NULL, 0) == SADDLEKERF_STATION);
+    CHECK(saddlekerf_satellite_look(&s, station, CALENDAR_END, look) == SADDLEKERF_RANGE);
+    CHECK(saddlekerf_satellite_look(&s, station, CALENDAR_END - 1, look) == SADDLEKERF_TIME);
+    CHECK(saddlekerf_satellite_look(&s, station, start + SADDLEKERF_TIME_LIMIT + 1, look) == SADDLEKERF_TIME);
+    station[SADDLEKERF_STATION_LEAST] = 90.5;
+    CHECK(saddlekerf_satellite_next_pass(&s, station, start, 60, 9, pass) == SADDLEKERF_STATION);
+    station[SADDLEKERF_STATION_LATITUDE] = -90.5;
+    CHECK(saddlekerf_satellite_look(&s, station, start, look) == SADDLEKERF_STATION);
+    CHECK(memcmp(&s, &before, sizeof s) == 0);
+    CHECK(pass[0] == 1 && pass[1] == 2 && pass[2] == 3 && pass[3] == 4 && look[0] == 1.0 && look[1] == 2.0 && look[2] == 3.0);
+}
+
 /* A row of the published set. */
 struct row {
     int64_t time;
@@ -1116,6 +1235,9 @@ int main(int argc, char **argv)
     keep_memory();
     lend_nothing();
     ask_windows();
+    passes_over_greenwich();
+    look_from_the_pole();
+    refuse_passes();
     CHECK(ask_all_published(argv[1]));
     printf("%ld checks, %ld failed\n", checks, failures);
     return failures == 0 ? 0 : 1;

@@ -45,6 +45,11 @@ uint64_t __real_saddlekerf_request_list(SATELLITE, const int64_t *times, size_t 
         size_t firsts_length, uint64_t *lasts, size_t lasts_length
 uint64_t __real_saddlekerf_windows(SATELLITE, STATION);
 
+#define READ_SATELLITE const double *numbers, size_t numbers_length, const uint32_t *marks, size_t marks_length
+uint64_t __real_saddlekerf_next_pass(READ_SATELLITE, const double *station, size_t station_length, uint64_t start,
+                                     uint64_t step, uint32_t samples, uint64_t *pass, size_t pass_length);
+uint64_t __real_saddlekerf_look(READ_SATELLITE, const double *station, size_t station_length, uint64_t instant,
+                                double *look, size_t look_length);
 uint64_t __real_saddlekerf_best_order(int64_t *times, size_t times_length);
 uint64_t __real_saddlekerf_move(uint64_t instant, int64_t span, uint64_t *moved);
 uint64_t __real_saddlekerf_date(uint64_t instant, uint64_t *date, size_t date_length);
@@ -364,6 +369,47 @@ uint64_t __wrap_saddlekerf_windows(SATELLITE, STATION)
         return SADDLEKERF_LIST;
     if (saddlekerf_refusal(a) == 0 && start >= UINT64_C(3155760000000000) && wrong("windows-six")) /* strides counted */
         return a | (uint64_t)samples << 32;
+    return a;
+}
+
+uint64_t __wrap_saddlekerf_next_pass(READ_SATELLITE, const double *station, size_t station_length, uint64_t start,
+                                     uint64_t step, uint32_t samples, uint64_t *pass, size_t pass_length)
+{
+    uint64_t a = __real_saddlekerf_next_pass(LENT_SATELLITE, station, station_length, start, step, samples, pass,
+                                             pass_length);
+    if (saddlekerf_found(a) && !saddlekerf_begun(a) && wrong("pass-rise")) /* a microsecond late */
+        pass[SADDLEKERF_PASS_RISE]++;
+    if (saddlekerf_found(a) && wrong("pass-set")) /* the sample after the pass */
+        pass[SADDLEKERF_PASS_SET] = pass[SADDLEKERF_PASS_NEXT];
+    if (saddlekerf_found(a) && wrong("pass-highest")) /* the middle */
+        pass[SADDLEKERF_PASS_HIGHEST] = (pass[SADDLEKERF_PASS_RISE] + pass[SADDLEKERF_PASS_SET]) / 2;
+    if (saddlekerf_found(a) && saddlekerf_samples_left(a) > 0 && wrong("pass-left"))
+        return a - (UINT64_C(1) << 32);
+    if (saddlekerf_found(a) && wrong("pass-edges")) /* begun and still not told */
+        return a & ~(UINT64_C(6) << 16);
+    if (saddlekerf_refusal(a) == SADDLEKERF_STATION && pass_length < SADDLEKERF_PASS && wrong("pass-order"))
+        return SADDLEKERF_ROOM;
+    if (saddlekerf_refusal(a) != 0 && pass_length > 0 && wrong("pass-refused"))
+        pass[0] = 0;
+    return a;
+}
+
+uint64_t __wrap_saddlekerf_look(READ_SATELLITE, const double *station, size_t station_length, uint64_t instant,
+                                double *look, size_t look_length)
+{
+    const uint64_t a = __real_saddlekerf_look(LENT_SATELLITE, station, station_length, instant, look, look_length);
+    if (a == 0 && wrong("look-azimuth")) /* from south */
+        look[SADDLEKERF_LOOK_AZIMUTH] += look[SADDLEKERF_LOOK_AZIMUTH] < 180.0 ? 180.0 : -180.0;
+    if (a == 0 && wrong("look-elevation")) /* from the zenith */
+        look[SADDLEKERF_LOOK_ELEVATION] = 90.0 - look[SADDLEKERF_LOOK_ELEVATION];
+    if (a == 0 && wrong("look-range")) /* metres */
+        look[SADDLEKERF_LOOK_RANGE] *= 1000.0;
+    if (saddlekerf_refusal(a) == SADDLEKERF_TIME && wrong("look-down")) { /* straight down */
+        look[0] = 0.0;
+        look[1] = -90.0;
+        look[2] = 0.0;
+        return 0;
+    }
     return a;
 }
 

@@ -28,10 +28,10 @@ from .record import Exponential, Record, checksum, epoch, form, meaning, printed
 from .refusal import Refused
 from .reports import Report, report
 from .roster import Pair, Roster, changes
-from .satellite import Answer, Rows, Satellite, State, Window, Windows
+from .satellite import Answer, Look, Pass, Rows, Satellite, State, Window, Windows
 
 __all__ = [
-    "FARTHEST", "Answer", "Date", "Entry", "Exponential", "Instant", "Microseconds", "Offer", "Pair",
+    "FARTHEST", "Answer", "Date", "Entry", "Exponential", "Instant", "Look", "Microseconds", "Offer", "Pair", "Pass",
     "Record", "Refused", "Repair", "Report", "Roster", "Rows", "Satellite", "State", "Strides", "Window",
     "Windows", "best_order", "changes", "check_plan", "checksum", "environment_is_default", "epoch", "form", "load",
     "meaning", "mend", "printed", "read", "report", "version",

@@ -16,12 +16,12 @@ def detail(answer: int) -> int:
 
 
 def place(answer: int) -> int:
-    """The column, the field, the number of windows, the offer or the entry."""
+    """The column, the field, the number of windows, the offer, the entry or what a pass is."""
     return answer >> 16 & 65535
 
 
 def count(answer: int) -> int:
-    """Bytes written or integrator strides."""
+    """Bytes written, integrator strides or samples left."""
     return answer >> 32
 
 

@@ -24,6 +24,9 @@ STATE = 6
 LIST_LIMIT = 1024
 SAMPLES_LIMIT = 1024
 STEP_LIMIT = 86_400
+PASS = 4
+LOOK = 3
+GEODETIC = 4
 TIME_LIMIT = 315_532_800_000_000
 PRINT_ROOM = 900
 LINE = 69
@@ -64,12 +67,14 @@ _SHORT: dict[str, tuple[Any, ...]] = {
     "best_order": _LENT,
     "open": _PAIR + _SATELLITE,
     "request": _SATELLITE + (c_int64,) + _LENT,
+    "look": _SATELLITE + _LENT + (c_uint64,) + _LENT,
 }
 
 _LONG: dict[str, tuple[Any, ...]] = {
     "report": _LINE + _LENT,
     "request_list": _SATELLITE + _LENT + _LENT + _LENT + _LENT,
     "windows": _SATELLITE + _LENT + (c_uint64, c_uint64, c_size_t) + _LENT + _LENT,
+    "next_pass": _SATELLITE + _LENT + (c_uint64, c_uint64, c_uint32) + _LENT,
 }
 
 

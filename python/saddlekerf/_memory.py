@@ -11,7 +11,7 @@ from typing import Any, Union
 from . import _answer
 from ._arrays import numpy
 from ._checked import Text, octets
-from ._library import LIST_LIMIT, MARKS, NUMBERS, STATE, library
+from ._library import LIST_LIMIT, LOOK, MARKS, NUMBERS, PASS, STATE, library
 from .refusal import Refused, of_lines
 
 
@@ -83,6 +83,29 @@ class Memory:
         if _answer.detail(answer) or found > places:
             _answer.foreign(answer)
         return answer, firsts[:found], lasts[:found]
+
+    def next_pass(self, station: Any, start: int, step: int, samples: int) -> tuple[int, list[int]]:
+        """The answer of a call for a pass, and the four instants where there is one."""
+        room = (ctypes.c_uint64 * PASS)()
+        with self._lock:
+            answer = library.next_pass(
+                self._numbers, NUMBERS, self._marks, MARKS, addressof(station), len(station), start, step, samples,
+                addressof(room), PASS,
+            )  # fmt: skip
+        found = _answer.place(answer)
+        if _answer.detail(answer) or found not in (0, 1, 3, 5, 7) or not found and _answer.count(answer):
+            _answer.foreign(answer)
+        return answer, room[:] if found else []
+
+    def look(self, station: Any, instant: int) -> tuple[int, list[float]]:
+        """The answer of a look, and its three numbers where it is answered."""
+        room = (ctypes.c_double * LOOK)()
+        with self._lock:
+            answer = library.look(
+                self._numbers, NUMBERS, self._marks, MARKS, addressof(station), len(station), instant,
+                addressof(room), LOOK,
+            )  # fmt: skip
+        return answer, room[:]
 
 
 class Rooms:

@@ -39,7 +39,7 @@ SENTENCES = {
     22: "the bytes are no roster, or the row is not its own",
     23: "the text has more than 4,096 pairs",
     24: "the text has an odd number of lines",
-    25: "the station is zero or not finite",
+    25: "the station is zero, not finite or out of range",
     26: "the step is 0 or more than 86,400 s",
     27: "an offer is outside the calendar, does not end after it starts, or bids more than 1,000,000,000 cents",
     28: "an entry names no offer",

@@ -4,7 +4,7 @@ from __future__ import annotations
 
 import datetime
 from array import array
-from collections.abc import Sequence
+from collections.abc import Iterator, Sequence
 from ctypes import c_double
 from typing import Any, NamedTuple, Union, overload
 
@@ -92,6 +92,32 @@ class Windows(NamedTuple):
 
     windows: list[Window]
     strides: Strides
+
+
+class Pass(NamedTuple):
+    """A run of samples above a least elevation, its edges refined to the microsecond."""
+
+    rise: Instant
+    """Above, and a microsecond before not; the first sample where the pass had `begun`."""
+    highest: Instant
+    """The highest point, sought to a millisecond."""
+    set: Instant
+    """Above, and a microsecond after not; the last sample where the pass was `still` going on."""
+    begun: bool
+    """Whether it was above at the first sample of all."""
+    still: bool
+    """Whether it was above at the last."""
+
+
+class Look(NamedTuple):
+    """Where a satellite stands, seen from a station."""
+
+    azimuth: float
+    """Degrees from north by east, 0 to 360."""
+    elevation: float
+    """Degrees above the plane across the ellipsoid's normal, without refraction."""
+    range: float
+    """Distance in km."""
 
 
 class Satellite:
@@ -199,17 +225,76 @@ class Satellite:
         where the station is zero or not finite, 26 where the step is 0 or more than 86,400 s, 18 for more
         than 1,024 samples. A sample that is refused ends a window.
         """
-        place = _three(station)
-        if isinstance(start, datetime.datetime):
-            start = Instant.from_datetime(start)
-        if not isinstance(start, Instant):
-            raise TypeError(f"a start is an Instant or a datetime, not {type(start).__name__}")
+        place, first = _three(station), _instant(start, "a start")
         step, samples = whole(step, "a step"), whole(samples, "a number of samples")
-        answer, firsts, lasts = self._memory.windows((c_double * 3)(*place), start.count, step, samples)
+        answer, firsts, lasts = self._memory.windows((c_double * 3)(*place), first.count, step, samples)
         if _answer.refusal(answer):
             raise _of_windows(answer, place, step, samples)
         pairs = zip(firsts, lasts)
         return Windows([Window(Instant(a), Instant(b)) for a, b in pairs], Strides(_answer.count(answer)))
+
+    def passes(
+        self,
+        latitude: float,
+        longitude: float,
+        height: float,
+        least: float,
+        start: Union[Instant, datetime.datetime],
+        step: int,
+        samples: int,
+    ) -> Iterator[Pass]:
+        """The passes over a station on the WGS-84 ellipsoid, each found as it is asked for.
+
+        Geodetic latitude and longitude in degrees (north and east), `height` in metres, `least` the least
+        elevation in degrees; `start` the first sample's instant, or its datetime with a time zone, `step`
+        the seconds from a sample to the next, `samples` how many there are, any number up to 4,294,967,295.
+        Up is the ellipsoid's normal; a sample that is refused is not above, samples end with the calendar,
+        and a pass between two samples is not seen. The satellite stays as it was. Refusal 25 where the
+        station or the least elevation is out of range, 26 where the step is 0 or more than 86,400 s.
+
+        >>> satellite = Satellite.open("1 06251U 62025E   06176.82412014  .00008885  00000-0  12808-3 0  3985",
+        ...                            "2 06251  58.0579  54.0425 0030035 139.1568 221.1854 15.56387291  6774")
+        >>> greenwich = 51.4779, -0.0015, 46
+        >>> passes = list(satellite.passes(*greenwich, 10, satellite.epoch, 60, 2880))
+        >>> len(passes), str(passes[0].rise.datetime)
+        (11, '2006-06-26 11:24:08.489641+00:00')
+        >>> round(satellite.look(*greenwich, passes[0].rise).azimuth, 3)
+        192.582
+        """
+        station = [_float(number) for number in (latitude, longitude, height, least)]
+        first = _instant(start, "a start")
+        step = whole(step, "a step")
+        samples = whole(samples, "a number of samples", range(2**32))
+        answer, _ = self._memory.next_pass((c_double * 4)(*station), first.count, step, 0)
+        if _answer.refusal(answer):
+            raise _of_passes(answer, station, step)
+        return self._passes(station, first.count, step, samples)
+
+    def _passes(self, station: list[float], start: int, step: int, samples: int) -> Iterator[Pass]:
+        while True:
+            answer, found = self._memory.next_pass((c_double * 4)(*station), start, step, samples)
+            if _answer.refusal(answer):
+                _answer.foreign(answer)
+            if not found:
+                return
+            rise, highest, down, start = found
+            what, samples = _answer.place(answer), _answer.count(answer)
+            yield Pass(Instant(rise), Instant(highest), Instant(down), bool(what & 2), bool(what & 4))
+
+    def look(
+        self, latitude: float, longitude: float, height: float, instant: Union[Instant, datetime.datetime]
+    ) -> Look:
+        """Azimuth, elevation and range at an instant, or at a datetime with a time zone, seen from a station.
+
+        Latitude, longitude and height as in `passes`. The satellite stays as it was. Refusal 25 where they
+        are out of range, 6 where the instant lies outside 1957-2056, 9 to 15 as of a row.
+        """
+        station = [_float(number) for number in (latitude, longitude, height)]
+        at = _instant(instant, "an instant")
+        answer, numbers = self._memory.look((c_double * 3)(*station), at.count)
+        if answer:
+            raise _of_look(answer, station, at)
+        return Look(*numbers)
 
 
 _TIMES = (Microseconds, Instant, datetime.timedelta, datetime.datetime)
@@ -228,6 +313,14 @@ def _three(station: Any) -> list[float]:
     if len(numbers) != 3:
         raise ValueError(f"a station is three numbers, not {len(numbers)}")
     return numbers
+
+
+def _instant(given: Any, what: str) -> Instant:
+    if isinstance(given, datetime.datetime):
+        given = Instant.from_datetime(given)
+    if not isinstance(given, Instant):
+        raise TypeError(f"{what} is an Instant or a datetime, not {type(given).__name__}")
+    return given
 
 
 def _float(value: Any) -> float:
@@ -268,3 +361,24 @@ def _of_windows(answer: int, station: list[float], step: int, samples: int) -> R
     if answer not in words:
         _answer.foreign(answer)
     return Refused(answer, words[answer])
+
+
+_RANGES = "latitude -90 to 90, longitude -180 to 360 degrees, height -10,000 to 100,000 m"
+
+
+def _of_passes(answer: int, station: list[float], step: int) -> Refused:
+    words = {
+        25: f"the station {station} is out of range: {_RANGES}, least elevation 0 to 90 degrees",
+        26: f"the step is {step} s; it may be 1 to {STEP_LIMIT}",
+    }
+    if answer not in words:
+        _answer.foreign(answer)
+    return Refused(answer, words[answer])
+
+
+def _of_look(answer: int, station: list[float], at: Instant) -> Refused:
+    if answer == 25:
+        return Refused(25, f"the station {station} is out of range: {_RANGES}")
+    if answer == 6:
+        return Refused(6, f"the instant {at.count} lies outside 1957-2056")
+    return _of_row(answer)

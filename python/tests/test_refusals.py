@@ -220,6 +220,30 @@ class Refusals(unittest.TestCase):
         for arguments, number, sentence in cases:
             self.hold(refusal_of(satellite.windows, *arguments), number, sentence)
 
+    def test_passes(self) -> None:
+        satellite = Satellite.open(LINE1, LINE2)
+        start = satellite.epoch
+        ranges = "latitude -90 to 90, longitude -180 to 360 degrees, height -10,000 to 100,000 m"
+        least = f"is out of range: {ranges}, least elevation 0 to 90 degrees"
+        passes = [
+            ((91, 0, 0, 5, start, 60, 9), 25, f"the station [91.0, 0.0, 0.0, 5.0] {least}"),
+            ((0, 361, 0, 5, start, 0, 9), 25, f"the station [0.0, 361.0, 0.0, 5.0] {least}"),
+            ((0, 0, math.nan, 5, start, 60, 9), 25, f"the station [0.0, 0.0, nan, 5.0] {least}"),
+            ((0, 0, 0, -0.5, start, 60, 9), 25, f"the station [0.0, 0.0, 0.0, -0.5] {least}"),
+            ((0, 0, 0, 5, start, 0, 9), 26, "the step is 0 s; it may be 1 to 86400"),
+            ((0, 0, 0, 5, start, 86_401, 9), 26, "the step is 86401 s; it may be 1 to 86400"),
+        ]
+        for arguments, number, sentence in passes:
+            self.hold(refusal_of(satellite.passes, *arguments), number, sentence)
+        outside, far = Instant(36_525 * 86_400_000_000), start.moved(Microseconds(315_532_800_000_000))
+        looks = [
+            ((0, 0, 200_000, start), 25, f"the station [0.0, 0.0, 200000.0] is out of range: {ranges}"),
+            ((0, 0, 0, outside), 6, "the instant 3155760000000000 lies outside 1957-2056"),
+            ((0, 0, 0, Instant(far.count + 1)), 9, "the time is beyond 3,652 days from the epoch"),
+        ]
+        for arguments, number, sentence in looks:
+            self.hold(refusal_of(satellite.look, *arguments), number, sentence)
+
     def test_rosters(self) -> None:
         roster = Roster()
         for number in range(64):

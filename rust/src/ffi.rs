@@ -191,6 +191,32 @@ mod c {
             lasts_length: usize,
         ) -> u64;
 
+        pub fn saddlekerf_next_pass(
+            numbers: *const f64,
+            numbers_length: usize,
+            marks: *const u32,
+            marks_length: usize,
+            station: *const f64,
+            station_length: usize,
+            start: u64,
+            step: u64,
+            samples: u32,
+            pass: *mut u64,
+            pass_length: usize,
+        ) -> u64;
+
+        pub fn saddlekerf_look(
+            numbers: *const f64,
+            numbers_length: usize,
+            marks: *const u32,
+            marks_length: usize,
+            station: *const f64,
+            station_length: usize,
+            instant: u64,
+            look: *mut f64,
+            look_length: usize,
+        ) -> u64;
+
         pub fn saddlekerf_award(
             offers: *const u64,
             offers_length: usize,
@@ -440,6 +466,50 @@ pub fn windows(
             firsts.len(),
             lasts.as_mut_ptr(),
             lasts.len(),
+        )
+    }
+}
+
+pub fn next_pass(
+    numbers: &[f64],
+    marks: &[u32],
+    station: &[f64],
+    start: u64,
+    step: u64,
+    samples: u32,
+    pass: &mut [u64],
+) -> u64 {
+    // SAFETY: slices, `pass` mutable, so that none overlaps it.
+    unsafe {
+        c::saddlekerf_next_pass(
+            numbers.as_ptr(),
+            numbers.len(),
+            marks.as_ptr(),
+            marks.len(),
+            station.as_ptr(),
+            station.len(),
+            start,
+            step,
+            samples,
+            pass.as_mut_ptr(),
+            pass.len(),
+        )
+    }
+}
+
+pub fn look(numbers: &[f64], marks: &[u32], station: &[f64], instant: u64, look: &mut [f64]) -> u64 {
+    // SAFETY: slices, `look` mutable, so that none overlaps it.
+    unsafe {
+        c::saddlekerf_look(
+            numbers.as_ptr(),
+            numbers.len(),
+            marks.as_ptr(),
+            marks.len(),
+            station.as_ptr(),
+            station.len(),
+            instant,
+            look.as_mut_ptr(),
+            look.len(),
         )
     }
 }

@@ -38,6 +38,9 @@
 //! Times of both sides of the epoch, in any order, are asked for the fewest strides by
 //! [`Satellite::list_in_best_order`].
 //!
+//! The passes over a station, with their highest points and the way to look: [`Satellite::passes`],
+//! [`Satellite::look`].
+//!
 //! A roster keeps up to 64 pairs, one a catalogue number, in 8,832 bytes, and their instants in a row:
 //!
 //! ```
@@ -104,6 +107,7 @@
 mod award;
 #[allow(unsafe_code)]
 mod ffi;
+mod passes;
 #[cfg(feature = "profile")]
 pub mod profile;
 mod record;
@@ -114,6 +118,7 @@ mod satellite;
 mod time;
 
 pub use award::{check_plan, Offer, Plan, PlanRefusal};
+pub use passes::{Found, Look, Pass, Passes, Station, Unseen};
 pub use record::{form, meaning, Exponential, Fields, Record};
 pub use refusal::{Field, Line, Refusal};
 pub use report::{count_text, Date, Report};

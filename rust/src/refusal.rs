@@ -1,6 +1,7 @@
 //! Refusals, and answers of the library taken apart.
 
 use crate::award::PlanRefusal;
+use crate::passes::{Found, Unseen};
 use crate::roster::{Uncompared, Which};
 use crate::time::Unmoved;
 use std::fmt;
@@ -85,7 +86,7 @@ pub enum Refusal {
     Pairs,
     /// 24: a text with an odd number of lines.
     Odd,
-    /// 25: a station that is zero or not finite.
+    /// 25: a station that is zero or not finite; of passes, one out of range, or such a least elevation.
     Station,
     /// 26: a step of 0 or more than 86,400 s.
     Step,
@@ -169,7 +170,7 @@ impl fmt::Display for Refusal {
             Refusal::NoRoster => f.write_str("the buffer is no roster"),
             Refusal::Pairs => f.write_str("a text of more than 4,096 pairs"),
             Refusal::Odd => f.write_str("a text with an odd number of lines"),
-            Refusal::Station => f.write_str("a station that is zero or not finite"),
+            Refusal::Station => f.write_str("a station that is zero, not finite or out of range"),
             Refusal::Step => f.write_str("a step of 0 or more than 86,400 s"),
             Refusal::DeepSpace => f.write_str("deep space"),
             Refusal::ProfileTime => f.write_str("a negative time, or one beyond 30 days"),
@@ -221,6 +222,26 @@ impl Answer {
             (0, 0) => Ok((self.place(), self.count())),
             (0, _) => self.foreign(),
             _ => self.counted().map(|count| (0, count)),
+        }
+    }
+
+    /// The answer of a call for a pass: whether there is one, with what comes back; or a refusal.
+    pub fn passed(self) -> Result<Option<Found>, Refusal> {
+        match (self.0 as u8, self.detail(), self.place(), self.count()) {
+            (0, 0, 0, 0) => Ok(None),
+            (0, 0, place @ (1 | 3 | 5 | 7), left) => {
+                Ok(Some(Found { begun: place & 2 != 0, still: place & 4 != 0, left }))
+            }
+            (0, ..) => self.foreign(),
+            _ => self.counted().map(|_| None),
+        }
+    }
+
+    /// The answer of a look.
+    pub fn seen(self) -> Result<(), Unseen> {
+        match self.0 {
+            6 => Err(Unseen::Outside),
+            _ => self.plain().map_err(Unseen::Refused),
         }
     }
 
@@ -405,7 +426,7 @@ mod tests {
             (22, 22, Refusal::NoRoster, "the buffer is no roster"),
             (23, 23, Refusal::Pairs, "a text of more than 4,096 pairs"),
             (24, 24, Refusal::Odd, "a text with an odd number of lines"),
-            (25, 25, Refusal::Station, "a station that is zero or not finite"),
+            (25, 25, Refusal::Station, "a station that is zero, not finite or out of range"),
             (26, 26, Refusal::Step, "a step of 0 or more than 86,400 s"),
             (32, 32, Refusal::DeepSpace, "deep space"),
             (33, 33, Refusal::ProfileTime, "a negative time, or one beyond 30 days"),
@@ -428,6 +449,26 @@ mod tests {
         assert_eq!(Answer(0x0000_0007_0000_0000).counted(), Ok(7));
         assert_eq!(Answer(0x0000_0007_0003_0000).windowed(), Ok((3, 7)));
         assert_eq!(Answer(26).windowed(), Err(Refusal::Step));
+    }
+
+    #[test]
+    fn answers_of_passes_and_looks() {
+        let found = |begun, still, left| Ok(Some(Found { begun, still, left }));
+        assert_eq!(Answer(0).passed(), Ok(None));
+        assert_eq!(Answer(0x0000_0007_0001_0000).passed(), found(false, false, 7));
+        assert_eq!(Answer(0x0000_0000_0003_0000).passed(), found(true, false, 0));
+        assert_eq!(Answer(0xffff_ffff_0005_0000).passed(), found(false, true, u32::MAX));
+        assert_eq!(Answer(0x0000_0000_0007_0000).passed(), found(true, true, 0));
+        assert_eq!(Answer(25).passed(), Err(Refusal::Station));
+        for answer in [1 << 32, 2 << 16, 9 << 16, 1 << 8, 25 | 1 << 16, 17 | 1 << 32] {
+            assert!(std::panic::catch_unwind(|| Answer(answer).passed()).is_err(), "{answer:#x}");
+        }
+        assert_eq!(Answer(0).seen(), Ok(()));
+        assert_eq!(Answer(6).seen(), Err(Unseen::Outside));
+        assert_eq!(Answer(14).seen(), Err(Unseen::Refused(Refusal::Radius)));
+        for answer in [1 << 32, 6 | 1 << 32, 14 | 1 << 32] {
+            assert!(std::panic::catch_unwind(|| Answer(answer).seen()).is_err(), "{answer:#x}");
+        }
     }
 
     /// Every refusal of an award plan: its answer by the header's layout, its number and its place.
