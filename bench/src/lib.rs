@@ -18,6 +18,7 @@
 //! - [`request`]: opening, single requests and lists, the saved position.
 //! - [`profile`]: near-Earth satellites from 0 to 30 days.
 //! - [`windows`]: the Earth-fixed frame, and when a satellite is above a station.
+//! - [`passes`]: passes over a station, and where a satellite stands in its sky.
 //! - [`published`]: the pairs of 002's test set.
 //! - [`random`], [`generate`]: seeded random numbers, pairs and requests.
 //! - [`library`], [`compare`]: libraries held against each other; [`proved`] is the proved one.
@@ -31,6 +32,7 @@ pub mod instant;
 pub mod library;
 pub mod moves;
 pub mod orders;
+pub mod passes;
 pub mod profile;
 pub mod proved;
 pub mod published;

@@ -12,6 +12,7 @@ use port::award;
 use port::elementary::{DocumentProcessor, Libm};
 use port::library::{Library, Port, Restarting, Timed};
 use port::orders;
+use port::passes::Timing;
 use port::proved::Proved;
 use port::published;
 use port::report::PAIRS;
@@ -219,5 +220,17 @@ fn main() {
     let mut timed =
         checkers.map(|check| Box::new(award::Timing { plan: plan.clone(), check }) as Box<dyn Timed>);
     show("checking an award plan of 256 offers, all named", &race(&mut timed, rounds, RUNS / 20, 1));
+    for (kind, catalogue) in SATELLITES {
+        let (line1, line2) = pair(catalogue);
+        let mut timed = [
+            Timing::proved(&line1, &line2),
+            Timing::port::<Libm>(&line1, &line2),
+            Timing::port::<Libm>(&line1, &line2),
+            Timing::port::<DocumentProcessor>(&line1, &line2),
+        ]
+        .map(|timing| Box::new(timing) as Box<dyn Timed>);
+        let best = race(&mut timed, rounds, 1, Timing::SAMPLES as usize);
+        show(&format!("passes over a day at 60 s, {kind}"), &best);
+    }
     orders(rounds);
 }

@@ -1,7 +1,8 @@
 //! Holds the proved library against the port, bit for bit: the long run.
 //!
 //!   compare [--seed N] [--whole N] [--damaged N] [--handed N] [--records N] [--rosters N]
-//!           [--reports N] [--changes N] [--windows N] [--awards N] [--orders N] [--first N]
+//!           [--reports N] [--changes N] [--windows N] [--awards N] [--orders N] [--passes N]
+//!           [--first N]
 //!
 //! `--whole` and `--damaged` say how many pairs of each kind (20000 each),
 //! `--handed` how many pairs have saved positions handed in (5000), `--records`
@@ -9,7 +10,8 @@
 //! twenty calls each (2000), `--changes` how many two rosters are compared (2000),
 //! `--windows` how many pairs are asked for windows, some ten calls each (10000),
 //! `--awards` how many award plans are checked and as many instants moved (100000),
-//! `--orders` how many lists are put in order, one in sixteen asked as well (50000);
+//! `--orders` how many lists are put in order, one in sixteen asked as well (50000),
+//! `--passes` how many pairs are asked for passes and looks, some ten calls each (20000);
 //! `--first` the number of the first case, to run one again. Prints the seed, how often each branch and refusal was met,
 //! and the first difference.
 
@@ -22,6 +24,7 @@ use port::elementary::Document;
 use port::library::{Library, Port};
 use port::moves;
 use port::orders;
+use port::passes;
 use port::proved::Proved;
 use std::process::ExitCode;
 
@@ -97,6 +100,13 @@ fn run() -> Result<Tally, Difference> {
     println!("and {lists} lists put in order");
     for index in first..first + lists {
         orders::case(seed, index, (orders::best_order, orders::proved), &mut tally).map_err(|what| {
+            Difference { case: String::new(), line1: String::new(), line2: String::new(), what }
+        })?;
+    }
+    let skies = option("--passes", 20_000);
+    println!("and {skies} pairs asked for passes");
+    for index in first..first + skies {
+        passes::case(seed, index, (&passes::Port, &passes::Proved), &mut tally).map_err(|what| {
             Difference { case: String::new(), line1: String::new(), line2: String::new(), what }
         })?;
     }
