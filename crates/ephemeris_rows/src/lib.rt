@@ -1,31 +1,19 @@
 // A request's line of `ephemeris` answered on standard output, or named on standard error where it is
-// none. Rows gather in a room, which is printed when it is full and at the end of the request. Each time
-// is asked alone, so that a row tells its own strides. As in streams, a failure stays marked.
+// none. Rows gather in a room, which is printed when it is full and at the end of the request. As in
+// streams, a failure stays marked.
 ghost use mathlib.Core.Path.{_≡_};
 ghost use mathlib.Core.Bool.{true};
 ghost use Prim.Native.Nat.{_≤_};
+use ephemeris_answers::Sheet;
+use ephemeris_answers::put_at;
+use ephemeris_answers::put_time;
 use ephemeris_requests::Ask;
 use ephemeris_requests::Fault;
 use ephemeris_requests::Grid;
 use ephemeris_requests::put_fault;
 use ephemeris_requests::read_ask;
 use ephemeris_requests::time_at;
-use ephemeris_text::State;
-use ephemeris_text::put_row;
-use instant::Elapsed;
-use instant::Instant;
-use instant::Microseconds;
-use instant::Moved;
-use instant::move_by;
-use instant::since;
-use lent_requests::request_held;
 use streams::print;
-
-// What every row has in common: the separator and the epoch.
-pub struct Sheet {
-    pub sep: u8,
-    pub epoch: Instant,
-}
 
 // The first bytes of a room.
 pub fn print_room(failed: &mut bool, room: &[u8], n: usize)
@@ -47,33 +35,7 @@ fn with_room(failed: &mut bool, room: &[u8], at: usize) -> usize
     at
 }
 
-// The row of a time, by the instant that it moves the epoch to.
-fn add_row(
-    failed: &mut bool,
-    room: &mut [u8],
-    at: usize,
-    sep: u8,
-    when: Moved,
-    time: i64,
-    numbers: &mut [f64; 83],
-    marks: &mut [u32; 6],
-) -> usize
-    ensures { λ _. ⌜ (now (failed .entry) ≡ true → now (failed .exit) ≡ true) ⌝ }
-{
-    let at = with_room(failed, room, at);
-    let mut s = [0f64; 6];
-    let a = request_held(numbers, marks, time, &mut s);
-    let state = State {
-        x: s[0],
-        y: s[1],
-        z: s[2],
-        vx: s[3],
-        vy: s[4],
-        vz: s[5],
-    };
-    put_row(room, at, sep, when, a % 256, state, a / 4294967296)
-}
-
+// The row of one time.
 fn add_time(
     failed: &mut bool,
     room: &mut [u8],
@@ -85,36 +47,8 @@ fn add_time(
 ) -> usize
     ensures { λ _. ⌜ (now (failed .entry) ≡ true → now (failed .exit) ≡ true) ⌝ }
 {
-    let epoch = sheet.epoch;
-    let when = move_by(epoch, Microseconds(time));
-    add_row(failed, room, at, sheet.sep, when, time, numbers, marks)
-}
-
-// An instant that was read and an epoch lie in the calendar, so there is a time between them.
-fn add_instant(
-    failed: &mut bool,
-    room: &mut [u8],
-    sheet: Sheet,
-    t: Instant,
-    numbers: &mut [f64; 83],
-    marks: &mut [u32; 6],
-) -> usize
-    ensures { λ _. ⌜ (now (failed .entry) ≡ true → now (failed .exit) ≡ true) ⌝ }
-{
-    let epoch = sheet.epoch;
-    match since(t, epoch) {
-        Elapsed::Is(time) => add_row(
-            failed,
-            room,
-            0,
-            sheet.sep,
-            Moved::To(t),
-            time.0,
-            numbers,
-            marks,
-        ),
-        Elapsed::Outside => 0,
-    }
+    let at = with_room(failed, room, at);
+    put_time(room, at, sheet, time, numbers, marks)
 }
 
 fn add_times(
@@ -196,7 +130,7 @@ fn rows_of(
             add_times(failed, room, sheet, &times[0..n], numbers, marks)
         }
         Ask::Steps(grid) => add_grid(failed, room, sheet, grid, numbers, marks),
-        Ask::At(t) => add_instant(failed, room, sheet, t, numbers, marks),
+        Ask::At(t) => put_at(room, 0, sheet, t, numbers, marks),
         Ask::Bad(why) => {
             tell(number, why);
             0
