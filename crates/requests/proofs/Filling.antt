@@ -293,3 +293,13 @@ filling-done {ts} {a₀} {b₀} {c₀} {k} {p₀} {a} {b} {c} {p} {n} {i} f h =
       states = f .states ∙ ap (λ l. over (statesOf (rowsFrom (holding k p₀) l)) b₀) e;
       rounds = f .rounds ∙ ap (λ l. over (roundsOf (rowsFrom (holding k p₀) l)) c₀) e;
     }
+
+-- ── the same positions, otherwise written ──
+
+pub filling-at : {ts : List ℤ} {a₀ : List ℕ} {b₀ : List Float} {c₀ : List ℕ} {k : Model} {p₀ : Place} {a : List ℕ} {b : List Float} {c : List ℕ} {p : Place} {n i : ℕ} {q : Place}
+    → Filling ts a₀ b₀ c₀ k p₀ a b c p n i → q ≡ p → Filling ts a₀ b₀ c₀ k p₀ a b c q n i
+filling-at {ts} {a₀} {b₀} {c₀} {k} {p₀} {a} {b} {c} {p} {n} {i} {q} f e = subst (λ (z : Place). Filling ts a₀ b₀ c₀ k p₀ a b c z n i) (sym e) f
+
+pub done-from : {ts : List ℤ} {a₀ : List ℕ} {b₀ : List Float} {c₀ : List ℕ} {k : Model} {p₀ q₀ : Place} {a : List ℕ} {b : List Float} {c : List ℕ} {p : Place} {n : ℕ}
+    → p₀ ≡ q₀ → Done ts a₀ b₀ c₀ k p₀ a b c p n → Done ts a₀ b₀ c₀ k q₀ a b c p n
+done-from {ts} {a₀} {b₀} {c₀} {k} {p₀} {q₀} {a} {b} {c} {p} {n} e d = subst (λ (z : Place). Done ts a₀ b₀ c₀ k z a b c p n) e d

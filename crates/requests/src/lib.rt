@@ -4,12 +4,17 @@ ghost use mathlib.Core.Path.{_≡_};
 ghost use Prim.Native.Nat.{_+_, _*_, _≤_, _<_};
 ghost use lib.ListN.{length, set};
 ghost use lib.Seq.{sets};
+ghost use Rattle.sgp4.specs.Sgp4.{integratorOf};
+ghost use Rattle.resonance.specs.Held as E;
 ghost use Rattle.requests.specs.Request as Q;
-ghost use Rattle.requests.specs.Two.{askedTwo};
+ghost use Rattle.requests.specs.Two.{askedTwo, carried};
 ghost use Rattle.requests.specs.Lists as L;
 use instant::Microseconds;
 use instant::Strides;
 use opening::opening::Satellite;
+use resonance::held::Held;
+use resonance::held::held_at;
+use resonance::held::unknown;
 use resonance::place::Advance;
 use resonance::place::Place;
 use resonance::time::in_range;
@@ -48,6 +53,18 @@ pub struct ListAnswer {
     pub refusal: u8,
     pub strides: Strides,
     pub satellite: Satellite,
+}
+
+// The position that a time needs with the derivatives there, and the strides to it.
+pub struct Carried {
+    pub held: Held,
+    pub strides: Strides,
+}
+
+// Two times asked, with the position that the second leaves and the derivatives there.
+struct HeldTwo {
+    two: AskedTwo,
+    held: Held,
 }
 
 struct Filled {
@@ -93,35 +110,71 @@ fn ask_each(model: Model, place: Place, t: Microseconds, t2: Microseconds) -> As
     AskedTwo { first, second }
 }
 
+// Two times where one is out of range.
+fn ask_apart(model: Model, h: Held, t: Microseconds, t2: Microseconds) -> HeldTwo
+    ensures { λ r. ⌜ r .two ≡ askedTwo model (h .place) (t .0) (t2 .0) ⌝ }
+    ensures { λ r. ⌜ r .held ≡ E.unknown (r .two .second .place) ⌝ }
+{
+    let place = h.place;
+    let two = ask_each(model, place, t, t2);
+    let saved = two.second.place;
+    let held = unknown(saved);
+    HeldTwo { two, held }
+}
+
+// The position that a time needs, with the derivatives there. A time that takes no stride has both.
+fn carry(model: Model, h: Held, t: Microseconds) -> Carried
+    ensures { λ r. ⌜ r ≡ carried model h (t .0) ⌝ }
+{
+    let i = integrator_of(model);
+    if h.stays(side_of(t), stride_need(i, t)) {
+        return Carried {
+            held: h,
+            strides: Strides(0),
+        };
+    }
+    let place = h.place;
+    let a = reached(model, place, t);
+    let strides = a.strides;
+    let held = held_at(i, a.place);
+    Carried { held, strides }
+}
+
 // Two times, the second at the position that the first leaves. Once both positions are reached neither
 // row waits for the other, so that two at once take less time.
-fn ask_two(model: Model, place: Place, t: Microseconds, t2: Microseconds) -> AskedTwo
-    ensures { λ r. ⌜ r ≡ askedTwo model place (t .0) (t2 .0) ⌝ }
+fn ask_two(model: Model, h: Held, t: Microseconds, t2: Microseconds) -> HeldTwo
+    requires { ⌜ E.Right (integratorOf model) h ⌝ }
+    ensures { λ r. ⌜ r .two ≡ askedTwo model (h .place) (t .0) (t2 .0) ⌝ }
+    ensures { λ r. ⌜ r .held .place ≡ r .two .second .place ⌝ }
+    ensures { λ r. ⌜ E.Right (integratorOf model) (r .held) ⌝ }
 {
     if in_range(t) & in_range(t2) {
-        let a = reached(model, place, t);
-        let p = a.place;
+        let a = carry(model, h, t);
+        let p = a.held;
         let strides = a.strides;
-        let b = reached(model, p, t2);
-        let p2 = b.place;
+        let b = carry(model, p, t2);
+        let p2 = b.held;
         let strides2 = b.strides;
         let rows = rows_at(model, p, t, p2, t2);
         let row = rows.first;
         let row2 = rows.second;
-        return AskedTwo {
+        let place = p.place;
+        let place2 = p2.place;
+        let two = AskedTwo {
             first: Asked {
                 row,
                 strides,
-                place: p,
+                place,
             },
             second: Asked {
                 row: row2,
                 strides: strides2,
-                place: p2,
+                place: place2,
             },
         };
+        return HeldTwo { two, held: p2 };
     }
-    ask_each(model, place, t, t2)
+    ask_apart(model, h, t, t2)
 }
 
 // The row of one time in microseconds since the epoch.
@@ -190,7 +243,7 @@ fn put_two(refusals: &mut [u8], states: &mut [f64], rounds: &mut [u8], i: usize,
 }
 
 // A row for each time, in rooms that are long enough; the times are taken two by two. The model does
-// not change: the loop carries the saved position alone.
+// not change: the loop carries the saved position, with the derivatives there.
 fn fill(
     model: Model,
     place: Place,
@@ -205,19 +258,21 @@ fn fill(
     requires { ⌜ length (now times) ≤ length (now rounds) ⌝ }
     ensures { λ r. ⌜ L.Done (now (times .entry)) (now (refusals .entry)) (now (states .entry)) (now (rounds .entry)) model place (now (refusals .exit)) (now (states .exit)) (now (rounds .exit)) (r .place) (r .strides .0) ⌝ }
 {
-    let mut p = place;
+    let mut h = unknown(place);
     let mut total: u32 = 0;
     let mut i = 0;
     while i + 1 < times.len() {
         let t = times[i];
         let u = times[i + 1];
-        let two = ask_two(model, p, Microseconds(t), Microseconds(u));
+        let x = ask_two(model, h, Microseconds(t), Microseconds(u));
+        let two = x.two;
         put_two(refusals, states, rounds, i, two);
         total += two.first.strides.0;
         total += two.second.strides.0;
-        p = two.second.place;
+        h = x.held;
         i += 2;
     }
+    let mut p = h.place;
     if i < times.len() {
         let t = times[i];
         let a = ask(model, p, Microseconds(t));

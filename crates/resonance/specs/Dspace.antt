@@ -46,10 +46,12 @@ resonantOf (kinds.OneDay d) i nm xl theta m =
 resonantOf (kinds.HalfDay h) i nm xl theta m =
     record { nm = changedOf i nm; em = m .em; inclm = m .inclm; argpm = m .argpm; nodem = m .nodem; mm = xl ⊖ dec 2 0 ⊗ m .nodem ⊕ dec 2 0 ⊗ theta }
 
--- 2614, 2686 and the above; tc is t
-unfoldable pub dspaceOf : Place → Integrator → SecularRates → Mean → Minutes → Mean
-dspaceOf p i s m t =
+-- 2614, 2686 and the above, with d the derivatives at the position; tc is t
+unfoldable pub dspaceBy : Dots → Place → Integrator → SecularRates → Mean → Minutes → Mean
+dspaceBy d p i s m t =
     let theta = thetaOf (i .gsto) (t .0) in
-    let d = dotsAt i p in
     let ft = t .0 ⊖ atimeOf p in
     resonantOf (i .resonance) i (nmOf d (p .xni) ft) (xlOf d (p .xli) ft) theta (secularUpdate s m (t .0))
+
+unfoldable pub dspaceOf : Place → Integrator → SecularRates → Mean → Minutes → Mean
+dspaceOf p i s m t = dspaceBy (dotsAt i p) p i s m t

@@ -70,16 +70,22 @@ fn resonant_of(kind: Resonance, i: Integrator, nm: f64, xl: f64, theta: f64, m: 
     }
 }
 
-// `p` is the position of the whole strides that the time `t` needs.
-pub fn dspace(p: Place, i: Integrator, s: SecularRates, m: Mean, t: Minutes) -> Mean
-    ensures { λ r. ⌜ r ≡ D.dspaceOf p i s m t ⌝ }
+// `p` is the position of the whole strides that the time `t` needs, and `d` are the derivatives there.
+pub fn dspace_by(d: Dots, p: Place, i: Integrator, s: SecularRates, m: Mean, t: Minutes) -> Mean
+    ensures { λ r. ⌜ r ≡ D.dspaceBy d p i s m t ⌝ }
 {
     let kind = i.resonance;
     let theta = theta_of(Radians(i.gsto), t);
-    let d = p.dots(i);
     let ft = t.0 - p.atime();
     let nm = nm_of(d, p.xni, ft);
     let xl = xl_of(d, p.xli, ft);
     let updated = secular_update(s, m, t.0);
     resonant_of(kind, i, nm, xl, theta.0, updated)
+}
+
+pub fn dspace(p: Place, i: Integrator, s: SecularRates, m: Mean, t: Minutes) -> Mean
+    ensures { λ r. ⌜ r ≡ D.dspaceOf p i s m t ⌝ }
+{
+    let d = p.dots(i);
+    dspace_by(d, p, i, s, m, t)
 }

@@ -2,5 +2,6 @@
 // on from. Each function is, bit by bit, its definition in specs/.
 pub mod dots;
 pub mod dspace;
+pub mod held;
 pub mod place;
 pub mod time;

@@ -126,7 +126,7 @@ impl Place {
     }
 
     // Whether a request for `m` strides on `side` goes on from here.
-    fn resumes(self, side: Side, m: Strides) -> bool
+    pub(crate) fn resumes(self, side: Side, m: Strides) -> bool
         ensures { λ r. ⌜ r ≡ P.resumes self side (m .0) ⌝ }
     {
         let n = self.strides.0;

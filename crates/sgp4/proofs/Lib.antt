@@ -1,3 +1,3 @@
 -- Laws that belong to no one function.
-mod Two
+pub mod Two
 pub mod Kept

@@ -1,6 +1,5 @@
 // The rows of two times side by side, which serves speed alone.
 ghost use mathlib.Core.Path.{_≡_};
-ghost use Rattle.sgp4.specs.Kept.{rowFrom};
 ghost use Rattle.sgp4.specs.Two as W;
 use crate::Row;
 use crate::deep_space::pairs::deep_two;
@@ -9,7 +8,7 @@ use crate::row_of;
 use instant::Microseconds;
 use instant::Minutes;
 use instant::to_minutes;
-use resonance::place::Place;
+use resonance::held::Held;
 use satellite::Method;
 use satellite::Model;
 use satellite::NearEarth;
@@ -24,30 +23,34 @@ pub struct Rows {
     pub second: Row,
 }
 
-fn ready_by(s: NearEarth, method: Method, p: Place, t: Minutes, p2: Place, t2: Minutes) -> ReadyPair
-    ensures { λ r. ⌜ r ≡ W.readyBy s method p t p2 t2 ⌝ }
+fn ready_by(s: NearEarth, method: Method, h: Held, t: Minutes, h2: Held, t2: Minutes) -> ReadyPair
+    ensures { λ r. ⌜ r ≡ W.readyBy s method h t h2 t2 ⌝ }
 {
     match method {
         Method::NearEarth => ready_two(s, t, t2),
-        Method::DeepSpace(d) => deep_two(s, d, p, t, p2, t2),
+        Method::DeepSpace(d) => deep_two(s, d, h, t, h2, t2),
     }
 }
 
-// The rows of two times in range, side by side; `p` and `p2` are the positions of the whole strides that
-// they need.
-pub fn rows_at(model: Model, p: Place, t: Microseconds, p2: Place, t2: Microseconds) -> Rows
-    ensures { λ r. ⌜ r ≡ record { first = rowFrom model p (t .0); second = rowFrom model p2 (t2 .0) } ⌝ }
+// The rows of two times in range, side by side; `h` and `h2` are the positions of the whole strides that
+// they need, with the derivatives there.
+pub fn rows_at(model: Model, h: Held, t: Microseconds, h2: Held, t2: Microseconds) -> Rows
+    ensures { λ r. ⌜ r ≡ W.rowsBy model h (t .0) h2 (t2 .0) ⌝ }
 {
     let near = model.near;
     let method = model.method;
-    match pair_of(ready_by(near, method, p, to_minutes(t), p2, to_minutes(t2))) {
+    match pair_of(ready_by(near, method, h, to_minutes(t), h2, to_minutes(t2))) {
         Pair::Both(a, b) => Rows {
             first: row_of(a),
             second: row_of(b),
         },
-        Pair::Apart => Rows {
-            first: row_at(model, p, t),
-            second: row_at(model, p2, t2),
-        },
+        Pair::Apart => {
+            let p = h.place;
+            let p2 = h2.place;
+            Rows {
+                first: row_at(model, p, t),
+                second: row_at(model, p2, t2),
+            }
+        }
     }
 }

@@ -12,8 +12,8 @@ use elementary::sin_cos;
 use elementary::two_thirds;
 use instant::Minutes;
 use periodics::dpper::dpper;
-use resonance::dspace::dspace;
-use resonance::place::Place;
+use resonance::dspace::dspace_by;
+use resonance::held::Held;
 use satellite::DeepSpace;
 use satellite::LunarSolar;
 use satellite::NearEarth;
@@ -116,25 +116,22 @@ fn moved_two(
     averaged_two(ls, n, first, second)
 }
 
-// The satellite at t and at t2, up to the long-period terms; `p` and `p2` are the positions of the
-// whole strides that these need.
-pub fn deep_two(
-    s: NearEarth,
-    d: DeepSpace,
-    p: Place,
-    t: Minutes,
-    p2: Place,
-    t2: Minutes,
-) -> ReadyPair
-    ensures { λ r. ⌜ r ≡ W.deepTwo s d p t p2 t2 ⌝ }
+// The satellite at t and at t2, up to the long-period terms; `h` and `h2` are the positions of the
+// whole strides that these need, with the derivatives there.
+pub fn deep_two(s: NearEarth, d: DeepSpace, h: Held, t: Minutes, h2: Held, t2: Minutes) -> ReadyPair
+    ensures { λ r. ⌜ r ≡ W.deepTwo s d h t h2 t2 ⌝ }
 {
     let integrator = d.integrator;
     let rates = d.rates;
     let ls = d.periodics;
+    let dots = h.dots;
+    let p = h.place;
+    let dots2 = h2.dots;
+    let p2 = h2.place;
     let g = secular(s, t);
     let g2 = secular(s, t2);
-    let e = dspace(p, integrator, rates, handed(s, g), t);
-    let e2 = dspace(p2, integrator, rates, handed(s, g2), t2);
+    let e = dspace_by(dots, p, integrator, rates, handed(s, g), t);
+    let e2 = dspace_by(dots2, p2, integrator, rates, handed(s, g2), t2);
     let u = updated(g, e);
     let u2 = updated(g2, e2);
     moved_two(ls, s.elements.no, t, e, u, t2, e2, u2)

@@ -9,14 +9,14 @@ returns : tie.Need-returns
 unfolding readyBy
 returns c =
     let a = c .before .before .before .args in
-    c .ready-two .ensures ∙ sym (ap (λ (m : Method). readyBy (a .s) m (a .p) (a .t) (a .p2) (a .t2)) (c .before .enum-told .given .1))
+    c .ready-two .ensures ∙ sym (ap (λ (m : Method). readyBy (a .s) m (a .h) (a .t) (a .h2) (a .t2)) (c .before .enum-told .given .1))
 
 returns-2 : tie.Need-returns-2
 unfolding readyBy
 returns-2 c =
     let s = c .before .before in
     let a = s .before .before .args in
-    c .deep-two .ensures ∙ sym (ap (λ (m : Method). readyBy (a .s) m (a .p) (a .t) (a .p2) (a .t2)) (s .method .given .1))
+    c .deep-two .ensures ∙ sym (ap (λ (m : Method). readyBy (a .s) m (a .h) (a .t) (a .h2) (a .t2)) (s .method .given .1))
 
 pub ready-by-spec : {M : Type 1} → statement M
 ready-by-spec =
