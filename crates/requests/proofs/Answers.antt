@@ -24,7 +24,7 @@ use Rattle.requests.specs.declared.Asked.{Asked}
 use Rattle.requests.specs.declared.AskedTwo.{AskedTwo}
 use Rattle.requests.specs.declared.Carried.{Carried}
 use Rattle.requests.specs.Request.{reached, choose, inside, outside, asked}
-use Rattle.requests.specs.Two.{askedTwo, carried}
+use Rattle.requests.specs.Two.{askedTwo, wentOn, carried}
 
 pub in-range : (k : Model) (p : Place) (t : ℤ) (b : Bool) (a : Advance) (row : Row) → b ≡ inRange t → b ≡ true → a ≡ reached k p t → row ≡ rowFrom k (a .place) t
     → _≡_ {A = Asked} (record { row = row; strides = a .strides; place = a .place }) (asked k p t)
@@ -54,60 +54,40 @@ both-true false b h = absurd (false≢true h)
 -- ── derivatives that are handed on ──
 
 carried-by : (k : Model) (h : Held) (t : ℤ) → Right (integratorOf k) h → (b : Bool) → stays h (sideOf t) (strideNeed (integratorOf k) t) ≡ b
-    → _≡_ {A = Carried}
-    (cond b (record { held = h; strides = record { 0 = 0 } }) (record { held = heldAt (integratorOf k) (reached k (h .place) t .place); strides = reached k (h .place) t .strides }))
-    (record { held = heldAt (integratorOf k) (reached k (h .place) t .place); strides = reached k (h .place) t .strides })
-unfolding reached
+    → cond b (record { held = h; strides = record { 0 = 0 } }) (wentOn k (h .place) t) ≡ wentOn k (h .place) t
+unfolding wentOn reached
 carried-by k h t r true e =
     let x = staying (integratorOf k) h (sideOf t) (strideNeed (integratorOf k) t) r e in
     ap (λ (z : Held). record { held = z; strides = record { 0 = 0 } }) (x .0)
     ∙ sym (ap (λ (a : Advance). record { held = heldAt (integratorOf k) (a .place); strides = a .strides }) (x .1))
 carried-by k h t r false e = refl
 
-carried-held : (k : Model) (h : Held) (t : ℤ) → Right (integratorOf k) h
-    → carried k h t ≡ record { held = heldAt (integratorOf k) (reached k (h .place) t .place); strides = reached k (h .place) t .strides }
+carried-held : (k : Model) (h : Held) (t : ℤ) → Right (integratorOf k) h → carried k h t ≡ wentOn k (h .place) t
 unfolding carried
 carried-held k h t r = carried-by k h t r (stays h (sideOf t) (strideNeed (integratorOf k) t)) refl
 
--- what the steps of `carried` come to
-tested : (k : Model) (h : Held) (t : ℤ) (i : Integrator) (d : Side) (m : Strides) (b : Bool) → i ≡ integratorOf k → d ≡ sideOf t → m .0 ≡ strideNeed i t
-    → b ≡ stays h d (m .0) → b ≡ stays h (sideOf t) (strideNeed (integratorOf k) t)
-tested k h t i d m b hi hd hm hb =
-    hb ∙ ap (λ (z : Side). stays h z (m .0)) hd ∙ ap (stays h (sideOf t)) (hm ∙ ap (λ (z : Integrator). strideNeed z t) hi)
-
-pub carried-stays : (k : Model) (h : Held) (t : ℤ) (i : Integrator) (d : Side) (m : Strides) (b : Bool) → i ≡ integratorOf k → d ≡ sideOf t → m .0 ≡ strideNeed i t
-    → b ≡ stays h d (m .0) → b ≡ true → _≡_ {A = Carried} (record { held = h; strides = record { 0 = 0 } }) (carried k h t)
+-- what the test of `carry` comes to
+pub tested : (k : Model) (h : Held) (t : ℤ) (i : Integrator) (d : Side) (m : Strides) (b c : Bool) (x : Carried) → i ≡ integratorOf k → d ≡ sideOf t → m .0 ≡ strideNeed i t
+    → b ≡ stays h d (m .0) → b ≡ c → x ≡ cond c (record { held = h; strides = record { 0 = 0 } }) (wentOn k (h .place) t) → x ≡ carried k h t
 unfolding carried
-carried-stays k h t i d m b hi hd hm hb e =
-    ap
-    (λ (z : Bool). cond z (record { held = h; strides = record { 0 = 0 } })
-    (record { held = heldAt (integratorOf k) (reached k (h .place) t .place); strides = reached k (h .place) t .strides }))
-    (sym e ∙ tested k h t i d m b hi hd hm hb)
-
-pub carried-goes : (k : Model) (h : Held) (t : ℤ) (i : Integrator) (d : Side) (m : Strides) (b : Bool) (a : Advance) (g : Held) → i ≡ integratorOf k → d ≡ sideOf t → m .0 ≡ strideNeed i t
-    → b ≡ stays h d (m .0) → b ≡ false → a ≡ reached k (h .place) t → g ≡ heldAt i (a .place) → _≡_ {A = Carried} (record { held = g; strides = a .strides }) (carried k h t)
-unfolding carried
-carried-goes k h t i d m b a g hi hd hm hb e ha hg =
-    ap (λ (z : Held). record { held = z; strides = a .strides }) (hg ∙ ap (λ (z : Integrator). heldAt z (a .place)) hi)
-    ∙ ap (λ (z : Advance). record { held = heldAt (integratorOf k) (z .place); strides = z .strides }) ha
-    ∙ ap
-    (λ (z : Bool). cond z (record { held = h; strides = record { 0 = 0 } })
-    (record { held = heldAt (integratorOf k) (reached k (h .place) t .place); strides = reached k (h .place) t .strides }))
-    (sym e ∙ tested k h t i d m b hi hd hm hb)
+tested k h t i d m b c x hi hd hm hb e hx =
+    let same : b ≡ stays h (sideOf t) (strideNeed (integratorOf k) t) =
+    hb ∙ ap (λ (z : Side). stays h z (m .0)) hd ∙ ap (stays h (sideOf t)) (hm ∙ ap (λ (z : Integrator). strideNeed z t) hi) in
+    hx ∙ ap (λ (z : Bool). cond z (record { held = h; strides = record { 0 = 0 } }) (wentOn k (h .place) t)) (sym e ∙ same)
 
 -- the position and the strides are those without them
 abbrev pub advance-of : Carried → Advance
 advance-of a = record { place = a .held .place; strides = a .strides }
 
 pub carried-advance : (k : Model) (h : Held) (t : ℤ) (a : Carried) → Right (integratorOf k) h → a ≡ carried k h t → advance-of a ≡ reached k (h .place) t
-unfolding heldAt
+unfolding wentOn heldAt
 carried-advance k h t a r e = ap advance-of (e ∙ carried-held k h t r)
 
 -- and the derivatives are those of the position
 pub carried-on : (k : Model) (h : Held) (t : ℤ) (a : Carried) → Right (integratorOf k) h → a ≡ carried k h t → a .held ≡ heldAt (integratorOf k) (a .held .place)
-unfolding heldAt
+unfolding wentOn heldAt
 carried-on k h t a r e =
-    let x : a ≡ record { held = heldAt (integratorOf k) (reached k (h .place) t .place); strides = reached k (h .place) t .strides } = e ∙ carried-held k h t r in
+    let x : a ≡ wentOn k (h .place) t = e ∙ carried-held k h t r in
     ap (λ (z : Carried). z .held) x ∙ ap (λ (z : Carried). heldAt (integratorOf k) (z .held .place)) (sym x)
 
 pub carried-stays-right : (k : Model) (h : Held) (t : ℤ) (a : Carried) → Right (integratorOf k) h → a ≡ carried k h t → Right (integratorOf k) (a .held)

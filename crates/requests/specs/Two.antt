@@ -15,11 +15,10 @@ use Rattle.requests.specs.Request.{reached, asked}
 abbrev pub askedTwo : Model → Place → ℤ → ℤ → AskedTwo
 askedTwo k p t t2 = let a = asked k p t in record { first = a; second = asked k (a .place) t2 }
 
--- the position that a time needs with the derivatives there, and the strides to it; a time that takes no stride has both
+-- the position that a time needs with the derivatives there, and the strides to it
+unfoldable pub wentOn : Model → Place → ℤ → Carried
+wentOn k p t = let a = reached k p t in record { held = heldAt (integratorOf k) (a .place); strides = a .strides }
+
+-- the same; a time that takes no stride has both
 unfoldable pub carried : Model → Held → ℤ → Carried
-carried k h t =
-    let i = integratorOf k in
-    let a = reached k (h .place) t in
-    cond (stays h (sideOf t) (strideNeed i t))
-    (record { held = h; strides = record { 0 = 0 } })
-    (record { held = heldAt i (a .place); strides = a .strides })
+carried k h t = cond (stays h (sideOf t) (strideNeed (integratorOf k) t)) (record { held = h; strides = record { 0 = 0 } }) (wentOn k (h .place) t)

@@ -7,7 +7,7 @@ ghost use lib.Seq.{sets};
 ghost use Rattle.sgp4.specs.Sgp4.{integratorOf};
 ghost use Rattle.resonance.specs.Held as E;
 ghost use Rattle.requests.specs.Request as Q;
-ghost use Rattle.requests.specs.Two.{askedTwo, carried};
+ghost use Rattle.requests.specs.Two.{askedTwo, wentOn, carried};
 ghost use Rattle.requests.specs.Lists as L;
 use instant::Microseconds;
 use instant::Strides;
@@ -122,7 +122,17 @@ fn ask_apart(model: Model, h: Held, t: Microseconds, t2: Microseconds) -> HeldTw
     HeldTwo { two, held }
 }
 
-// The position that a time needs, with the derivatives there. A time that takes no stride has both.
+// The position that a time needs, with the derivatives there.
+fn go_on(model: Model, place: Place, t: Microseconds) -> Carried
+    ensures { λ r. ⌜ r ≡ wentOn model place (t .0) ⌝ }
+{
+    let a = reached(model, place, t);
+    let strides = a.strides;
+    let held = held_at(integrator_of(model), a.place);
+    Carried { held, strides }
+}
+
+// The same; a time that takes no stride has both.
 fn carry(model: Model, h: Held, t: Microseconds) -> Carried
     ensures { λ r. ⌜ r ≡ carried model h (t .0) ⌝ }
 {
@@ -134,10 +144,7 @@ fn carry(model: Model, h: Held, t: Microseconds) -> Carried
         };
     }
     let place = h.place;
-    let a = reached(model, place, t);
-    let strides = a.strides;
-    let held = held_at(i, a.place);
-    Carried { held, strides }
+    go_on(model, place, t)
 }
 
 // Two times, the second at the position that the first leaves. Once both positions are reached neither
