@@ -1,4 +1,3 @@
-use borrow.Author.Needs.{needs}
 use Rattle.saddlekerf.proofs.saddlekerf_epoch.Statement.{statement}
 use Rattle.saddlekerf.proofs.saddlekerf_epoch.Tie as tie
 

@@ -1,6 +1,5 @@
 use mir.Syntax.{w64}
 use mir.ValLaws.{toZ-ofZ}
-use borrow.Author.Needs.{needs}
 use Rattle.saddlekerf.proofs.saddlekerf_move.Statement.{statement}
 use Rattle.saddlekerf.proofs.saddlekerf_move.Tie as tie
 
