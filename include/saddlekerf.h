@@ -56,8 +56,8 @@
  *   Every call returns. Only a resonant satellite takes strides: a request at most 7,304 of them (a
  *   time 3,652 days away, some 1.5 ms), a list at most 7,479,296 (1,024 such times, each on the other
  *   side of the epoch than the one before, some 1.5 s). saddlekerf_strides tells how many were taken.
- *   A call for windows takes those of its samples as a list; a call for a pass those of its samples, and
- *   of the instants at which it looks for the edges and the highest point, from where the satellite is.
+ *   A call for windows takes those of its samples as a list. A call for a pass goes through its samples
+ *   until it finds one, some microsecond each: ten years of seconds are minutes.
  *   A call on a roster judges all its pairs, some 30 microseconds for 64; listing what changed between
  *   two full ones takes some 90.
  *   No function needs more than SADDLEKERF_STACK bytes of stack, beside what memcpy and memset take.
