@@ -970,7 +970,7 @@ static void ask_windows(void)
     refuse_windows();
 }
 
-/* A pair of the published set with passes over Greenwich, which station_passes prints. */
+/* A pair of the published set with passes over Greenwich; the instants are those that the programs print. */
 static const char PASSING1[] = "1 06251U 62025E   06176.82412014  .00008885  00000-0  12808-3 0  3985";
 static const char PASSING2[] = "2 06251  58.0579  54.0425 0030035 139.1568 221.1854 15.56387291  6774";
 static const double GREENWICH[SADDLEKERF_GEODETIC] = {51.4779, -0.0015, 46.0, 10.0};
