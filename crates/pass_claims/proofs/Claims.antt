@@ -10,6 +10,7 @@ use borrow.Author.Tests.{eqb-true, eqb-false}
 use Rattle.elementary.specs.Trig.{sinOf}
 use Rattle.instant.specs.Quantity.{radiansOf}
 use Rattle.instant.specs.Calendar.{inCalendar}
+use Rattle.instant.proofs.Calendar.{inside, below}
 use Rattle.satellite.specs.declared.Model.{Model}
 use Rattle.resonance.specs.declared.place.Side.the-variants.{Forward}
 use Rattle.resonance.specs.declared.place.Place.{Place}
@@ -32,7 +33,7 @@ use Rattle.pass_edges.specs.Search.{sineAt, aboveAt, until, edge, summit}
 use Rattle.passes.specs.Samples.{hits, higher, begin, stopped, passed, judged, sampled, stops}
 use Rattle.passes.specs.Passes.{passRefusal, scanned, scansLeft, after, leftOf, passOf, searched, nextPass}
 use Rattle.passes.proofs.Steps.{short-step}
-use Rattle.pass_claims.specs.Claims.{Refined, Right, OpenedPasses}
+use Rattle.pass_claims.specs.Claims.{Refined, NoneAbove, Right, OpenedPasses}
 use Rattle.pass_claims.proofs.Edges.{impossible, differ, less-than, edge-rises, edge-sets, edge-same}
 use Rattle.pass_claims.proofs.Tops.{summit-within}
 use Rattle.pass_claims.proofs.Held.{Held, same-sine, still-held}
@@ -96,6 +97,56 @@ module _ (site : Site) (k : Model) (least : Float) (step : ℕ) where
   pub upward : (n : ℕ) (s : Satellite) (t : ℕ) → Held k s → Up (scanned site least true step n s t)
   unfolding scanned
   upward n s t h = kept Up stops (sampled (seenAt site) least true step) up-step n (begin s t) (up-begin s t h)
+
+  -- ── no sample above, of those from t on ──
+
+  module _ (t : ℕ) where
+    abbrev at : ℕ → ℕ
+    at i = t + i * step
+
+    abbrev more : ℕ → Scan → Scan
+    more n x = until stops (sampled (seenAt site) least true step) n x
+
+    abbrev Clear : ℕ → ℕ → Type 0
+    Clear n j = (i : ℕ) → i < n → inCalendar (at (j + i)) ≡ true → p (at (j + i)) ≡ false
+
+    onward : (n j : ℕ) → p (at j) ≡ false → Clear n (suc j) → Clear (suc n) j
+    onward n j h c zero l z = let e : j + 0 ≡ j = omega arith in ap (λ (m : ℕ). p (at m)) e ∙ h
+    onward n j h c (suc i) l z =
+        let e : j + suc i ≡ suc j + i = omega arith in
+        ap (λ (m : ℕ). p (at m)) e ∙ c i (omega arith) (ap (λ (m : ℕ). inCalendar (at m)) (sym e) ∙ z)
+
+    over : (n j : ℕ) → inCalendar (at j) ≡ false → Clear n j
+    over n j h i l z =
+        let b = below (at (j + i)) z in
+        let e : at j < 3155760000000000 = omega (arith, b) in
+        impossible (false≢true (sym h ∙ inside (at j) e))
+
+    by-sample : (n j : ℕ) (x : Scan) (y : Seen) (c q : Bool) → inCalendar (at j) ≡ c → p (at j) ≡ q
+        → (more n (passed step x y) .found ≡ false → Clear n (suc j))
+        → (let z = cond c (cond q (stopped true x) (passed step x y)) (stopped false x) in cond (z .stop) z (more n z) .found) ≡ false
+        → Clear (suc n) j
+    unfolding stopped passed
+    by-sample n j x y false q ec eq ih f = over (suc n) j ec
+    by-sample n j x y true true ec eq ih f = impossible (false≢true (sym f))
+    by-sample n j x y true false ec eq ih f = onward n j eq (ih f)
+
+    -- the scan x stands before sample j
+    none-above : (n j : ℕ) (x : Scan) → Held k (x .satellite) → x .next ≡ at j → more n x .found ≡ false → Clear n j
+    unfolding until sampled judged hits passed
+    none-above zero j x h e f = λ i l z. absurd (omega (arith, l))
+    none-above (suc n) j x h e f =
+        let y = seenAt site (x .satellite) (x .next) in
+        let e′ : x .next + step ≡ at (suc j) = omega (arith, e) in
+        by-sample n j x y (inCalendar (x .next)) (lt least (y .sine)) (ap inCalendar (sym e)) (ap p (sym e) ∙ told (x .satellite) (x .next) (lt least (y .sine)) h refl)
+        (none-above n (suc j) (passed step x y) (still-held site k (x .satellite) (x .next) h) e′) f
+
+    pub all-below : (n : ℕ) (s : Satellite) → Held k s → scanned site least true step n s t .found ≡ false → NoneAbove p t step n
+    unfolding scanned begin
+    all-below n s h f i l z =
+        let e : t ≡ at 0 = omega arith in
+        let j : 0 + i ≡ i = omega arith in
+        ap (λ (m : ℕ). p (at m)) (sym j) ∙ none-above n 0 (begin s t) h e f i l (ap (λ (m : ℕ). inCalendar (at m)) j ∙ z)
 
   -- ── to the first sample not above, from the instant u ──
 
@@ -229,13 +280,13 @@ module _ (site : Site) (k : Model) (least : Float) (step : ℕ) where
     abbrev down : Scan
     down = scanned site least false step j (up .satellite) (up .next)
 
-    by-found : (b : Bool) → up .found ≡ b → Right p (cond b (passing.Found (passOf site least step up down (scansLeft site least false step j (up .satellite) (up .next)))) passing.Nothing)
+    by-found : (b : Bool) → up .found ≡ b → Right p t step n (cond b (passing.Found (passOf site least step up down (scansLeft site least false step j (up .satellite) (up .next)))) passing.Nothing)
     by-found true f =
         let u = upward n s t h in
         refined up down (scansLeft site least false step j (up .satellite) (up .next)) hs u f (downward (up .next) j (up .satellite) (u .held) (u .hit f))
-    by-found false f = tt
+    by-found false f = all-below t n s h f
 
-    pub right : Right p (searched site least step n s t)
+    pub right : Right p t step n (searched site least step n s t)
     unfolding searched
     right = by-found (up .found) refl
 
@@ -245,18 +296,18 @@ unfolding nextPass
 opened s g least t step n b e = ap (λ z. cond z (searched (siteOf g) (sinOf (radiansOf least)) (step * 1000000) n s t) (passing.Refused (passRefusal g least step))) e
 
 by-refusal : (s : Satellite) → Held (s .model) s → (g : Geodetic) (least : Float) (t step n : ℕ) (b : Bool) → eqb (passRefusal g least step) 0 ≡ b
-    → Right (aboveAt (siteOf g) (sinOf (radiansOf least)) (satelliteAt (s .model) none)) (cond b (searched (siteOf g) (sinOf (radiansOf least)) (step * 1000000) n s t) (passing.Refused (passRefusal g least step)))
+    → Right (aboveAt (siteOf g) (sinOf (radiansOf least)) (satelliteAt (s .model) none)) t (step * 1000000) n (cond b (searched (siteOf g) (sinOf (radiansOf least)) (step * 1000000) n s t) (passing.Refused (passRefusal g least step)))
 by-refusal s h g least t step n true e =
     let w : step ≤ 86400 = short-step g least step (eqb-true (passRefusal g least step) 0 e) in
     right (siteOf g) (s .model) (sinOf (radiansOf least)) (step * 1000000) s h (omega (arith, w)) n t
 by-refusal s h g least t step n false e = tt
 
 answered-by : (s : Satellite) → Held (s .model) s → (g : Geodetic) (least : Float) (t step n : ℕ) (b : Bool) → eqb (passRefusal g least step) 0 ≡ b
-    → Right (aboveAt (siteOf g) (sinOf (radiansOf least)) (satelliteAt (s .model) none)) (nextPass s g least t step n)
+    → Right (aboveAt (siteOf g) (sinOf (radiansOf least)) (satelliteAt (s .model) none)) t (step * 1000000) n (nextPass s g least t step n)
 answered-by s h g least t step n b e =
-    subst (Right (aboveAt (siteOf g) (sinOf (radiansOf least)) (satelliteAt (s .model) none))) (sym (opened s g least t step n b e)) (by-refusal s h g least t step n b e)
+    subst (Right (aboveAt (siteOf g) (sinOf (radiansOf least)) (satelliteAt (s .model) none)) t (step * 1000000) n) (sym (opened s g least t step n b e)) (by-refusal s h g least t step n b e)
 
 pub opened-passes : OpenedPasses
 opened-passes r s h g least t step n =
     let at : s ≡ satelliteAt (s .model) none = ap (λ (z : Place). record { model = s .model; place = z }) (opened-place r s h ∙ sym (position-zero (integratorOf (s .model)) Forward)) in
-    subst (λ (z : Satellite). Right (aboveAt (siteOf g) (sinOf (radiansOf least)) z) (nextPass s g least t step n)) (sym at) (answered-by s (record { last = none; at = at }) g least t step n (eqb (passRefusal g least step) 0) refl)
+    subst (λ (z : Satellite). Right (aboveAt (siteOf g) (sinOf (radiansOf least)) z) t (step * 1000000) n (nextPass s g least t step n)) (sym at) (answered-by s (record { last = none; at = at }) g least t step n (eqb (passRefusal g least step) 0) refl)

@@ -1,10 +1,11 @@
 -- What is claimed of the passes of a satellite newly opened, and proved in proofs/Claims. Definitions only.
-use Prim.Native.Nat.{ℕ, _+_, _-_, _≤_}
+use Prim.Native.Nat.{ℕ, _+_, _-_, _*_, _≤_, _<_}
 use mathlib.Core.Path.{_≡_}
 use mathlib.Core.Bool.{Bool, true, false}
 use lib.Ieee.{Float}
 use Rattle.elementary.specs.Trig.{sinOf}
 use Rattle.instant.specs.Quantity.{radiansOf}
+use Rattle.instant.specs.Calendar.{inCalendar}
 use Rattle.geodetic.specs.declared.Geodetic.{Geodetic}
 use Rattle.geodetic.specs.Geodetic.{siteOf}
 use Rattle.tle.specs.declared.Record.{Record}
@@ -26,13 +27,17 @@ pub record Refined (p : ℕ → Bool) (x : Pass) : Type 0 where
   pub sets : x .still ≡ false → (p (x .set .0) ≡ true) × (p (x .set .0 + 1) ≡ false)
   pub highest : (x .rise .0 ≤ x .highest .0) × (x .highest .0 ≤ x .set .0)
 
-abbrev pub Right : (ℕ → Bool) → Passing → Type 0
-Right p (passing.Found x) = Refined p x
-Right p passing.Nothing = Unit {0}
-Right p (passing.Refused r) = Unit {0}
+-- of n samples from t on, a step of microseconds apart, none that the calendar has is above
+abbrev pub NoneAbove : (ℕ → Bool) → ℕ → ℕ → ℕ → Type 0
+NoneAbove p t step n = (i : ℕ) → i < n → inCalendar (t + i * step) ≡ true → p (t + i * step) ≡ false
+
+abbrev pub Right : (ℕ → Bool) → ℕ → ℕ → ℕ → Passing → Type 0
+Right p t step n (passing.Found x) = Refined p x
+Right p t step n passing.Nothing = NoneAbove p t step n
+Right p t step n (passing.Refused r) = Unit {0}
 
 -- every answer for a satellite newly opened, by that satellite asked one instant alone (`opened-passes`)
 abbrev pub OpenedPasses : Type 0
 OpenedPasses =
     (r : Record) (s : Satellite) → openOf r ≡ Opened s
-    → (g : Geodetic) (least : Float) (t step n : ℕ) → Right (aboveAt (siteOf g) (sinOf (radiansOf least)) s) (nextPass s g least t step n)
+    → (g : Geodetic) (least : Float) (t step n : ℕ) → Right (aboveAt (siteOf g) (sinOf (radiansOf least)) s) t (step * 1000000) n (nextPass s g least t step n)
