@@ -3,6 +3,7 @@ use mathlib.Core.Path.{_≡_, refl, sym, ap, _∙_, subst}
 use mathlib.Core.Logic.{_⊎_, inl, inr}
 use mathlib.Core.Bool.{Bool, true, false, cond, not, false≢true}
 use Prim.Native.Nat.{ℕ, zero, suc, _+_, _-_, _*_, _^_, _≤_, _<_}
+use native.Mathlib.Nat.{eq-or-lt-of-le, mul-le-mul-right}
 use native.Mathlib.Omega.{arith}
 use lib.Dec.{eqb}
 use lib.Ieee.{Float, lt}
@@ -29,12 +30,12 @@ use Rattle.passes.specs.declared.Scan.{Scan}
 use Rattle.passes.specs.declared.Pass.{Pass}
 use Rattle.passes.specs.declared.Passing.{Passing}
 use Rattle.passes.specs.declared.Passing.the-variants as passing
-use Rattle.pass_edges.specs.Search.{sineAt, aboveAt, until, edge, summit}
+use Rattle.pass_edges.specs.Search.{sineAt, aboveAt, until, leftOver, edge, summit}
 use Rattle.passes.specs.Samples.{hits, higher, begin, stopped, passed, judged, sampled, stops}
 use Rattle.passes.specs.Passes.{passRefusal, scanned, scansLeft, after, leftOf, passOf, searched, nextPass}
 use Rattle.passes.proofs.Steps.{short-step}
-use Rattle.pass_claims.specs.Claims.{Refined, NoneAbove, Right, OpenedPasses}
-use Rattle.pass_claims.proofs.Edges.{impossible, differ, less-than, edge-rises, edge-sets, edge-same}
+use Rattle.pass_claims.specs.Claims.{Refined, Onward, First, NoneAbove, Right, OpenedPasses}
+use Rattle.pass_claims.proofs.Edges.{impossible, differ, less-than, split, edge-rises, edge-sets, edge-same}
 use Rattle.pass_claims.proofs.Tops.{summit-within}
 use Rattle.pass_claims.proofs.Held.{Held, same-sine, still-held}
 
@@ -98,55 +99,117 @@ module _ (site : Site) (k : Model) (least : Float) (step : ℕ) where
   unfolding scanned
   upward n s t h = kept Up stops (sampled (seenAt site) least true step) up-step n (begin s t) (up-begin s t h)
 
-  -- ── no sample above, of those from t on ──
+  -- ── the samples of a scan: sample i is at(i) ──
 
-  module _ (t : ℕ) where
+  module _ (t : ℕ) (wanted : Bool) where
     abbrev at : ℕ → ℕ
     at i = t + i * step
 
+    abbrev wants : Bool → Bool
+    wants q = cond wanted q (not q)
+
     abbrev more : ℕ → Scan → Scan
-    more n x = until stops (sampled (seenAt site) least true step) n x
+    more n x = until stops (sampled (seenAt site) least wanted step) n x
 
-    abbrev Clear : ℕ → ℕ → Type 0
-    Clear n j = (i : ℕ) → i < n → inCalendar (at (j + i)) ≡ true → p (at (j + i)) ≡ false
+    abbrev rest : ℕ → Scan → ℕ
+    rest n x = leftOver stops (sampled (seenAt site) least wanted step) n x
 
-    onward : (n j : ℕ) → p (at j) ≡ false → Clear n (suc j) → Clear (suc n) j
-    onward n j h c zero l z = let e : j + 0 ≡ j = omega arith in ap (λ (m : ℕ). p (at m)) e ∙ h
-    onward n j h c (suc i) l z =
-        let e : j + suc i ≡ suc j + i = omega arith in
-        ap (λ (m : ℕ). p (at m)) e ∙ c i (omega arith) (ap (λ (m : ℕ). inCalendar (at m)) (sym e) ∙ z)
+    -- From sample j a scan of n samples reached sample m: none before it is as wanted. It found it, with so many left, or it went through all, or through the calendar.
+    pub record Reached (n j : ℕ) (z : Scan) (left : ℕ) : Type 0 where
+      pub m : ℕ
+      pub next : z .next ≡ at m
+      pub missed : (i : ℕ) → j ≤ i → i < m → wants (p (at i)) ≡ false
+      pub counted : z .found ≡ true → left + m ≡ n + j
+      pub some : z .found ≡ true → 1 ≤ left
+      pub inside : z .found ≡ true → inCalendar (at m) ≡ true
+      pub ended : z .found ≡ false → (m ≡ n + j) ⊎ (inCalendar (at m) ≡ false)
 
-    over : (n j : ℕ) → inCalendar (at j) ≡ false → Clear n j
-    over n j h i l z =
-        let b = below (at (j + i)) z in
-        let e : at j < 3155760000000000 = omega (arith, b) in
-        impossible (false≢true (sym h ∙ inside (at j) e))
+    missed-by : (j m i : ℕ) → wants (p (at j)) ≡ false → ((i : ℕ) → suc j ≤ i → i < m → wants (p (at i)) ≡ false) → (j ≡ i) ⊎ (j < i) → i < m → wants (p (at i)) ≡ false
+    missed-by j m i w h (inl e) l = ap (λ (z : ℕ). wants (p (at z))) (sym e) ∙ w
+    missed-by j m i w h (inr g) l = h i (omega (arith, g)) l
 
-    by-sample : (n j : ℕ) (x : Scan) (y : Seen) (c q : Bool) → inCalendar (at j) ≡ c → p (at j) ≡ q
-        → (more n (passed step x y) .found ≡ false → Clear n (suc j))
-        → (let z = cond c (cond q (stopped true x) (passed step x y)) (stopped false x) in cond (z .stop) z (more n z) .found) ≡ false
-        → Clear (suc n) j
+    ended-by : (n j m : ℕ) → (m ≡ n + suc j) ⊎ (inCalendar (at m) ≡ false) → (m ≡ suc n + j) ⊎ (inCalendar (at m) ≡ false)
+    ended-by n j m (inl e) = inl (omega (arith, e))
+    ended-by n j m (inr h) = inr h
+
+    by-sample : (n j : ℕ) (x : Scan) (y : Seen) (c q : Bool) → x .next ≡ at j → inCalendar (at j) ≡ c → wants (p (at j)) ≡ q
+        → Reached n (suc j) (more n (passed step x y)) (rest n (passed step x y))
+        → let z = cond c (cond q (stopped true x) (passed step x y)) (stopped false x) in Reached (suc n) j (cond (z .stop) z (more n z)) (cond (z .stop) (suc n) (rest n z))
     unfolding stopped passed
-    by-sample n j x y false q ec eq ih f = over (suc n) j ec
-    by-sample n j x y true true ec eq ih f = impossible (false≢true (sym f))
-    by-sample n j x y true false ec eq ih f = onward n j eq (ih f)
+    by-sample n j x y false q e ec eq r =
+        record {
+          m = j;
+          next = e;
+          missed = λ i a b. absurd (omega (arith, a, b));
+          counted = λ h. impossible (false≢true h);
+          some = λ h. impossible (false≢true h);
+          inside = λ h. impossible (false≢true h);
+          ended = λ h. inr ec;
+        }
+    by-sample n j x y true true e ec eq r =
+        record {
+          m = j;
+          next = e;
+          missed = λ i a b. absurd (omega (arith, a, b));
+          counted = λ h. refl;
+          some = λ h. omega arith;
+          inside = λ h. ec;
+          ended = λ h. impossible (false≢true (sym h));
+        }
+    by-sample n j x y true false e ec eq r =
+        record {
+          m = r .m;
+          next = r .next;
+          missed = λ i a b. missed-by j (r .m) i eq (r .missed) (eq-or-lt-of-le a) b;
+          counted = λ h. omega (arith, r .counted h);
+          some = r .some;
+          inside = r .inside;
+          ended = λ h. ended-by n j (r .m) (r .ended h);
+        }
 
-    -- the scan x stands before sample j
-    none-above : (n j : ℕ) (x : Scan) → Held k (x .satellite) → x .next ≡ at j → more n x .found ≡ false → Clear n j
-    unfolding until sampled judged hits passed
-    none-above zero j x h e f = λ i l z. absurd (omega (arith, l))
-    none-above (suc n) j x h e f =
+    pub reaches : (n j : ℕ) (x : Scan) → Held k (x .satellite) → x .next ≡ at j → x .found ≡ false → Reached n j (more n x) (rest n x)
+    unfolding until leftOver sampled judged hits passed
+    reaches zero j x h e g =
+        record {
+          m = j;
+          next = e;
+          missed = λ i a b. absurd (omega (arith, a, b));
+          counted = λ f. impossible (false≢true (sym g ∙ f));
+          some = λ f. impossible (false≢true (sym g ∙ f));
+          inside = λ f. impossible (false≢true (sym g ∙ f));
+          ended = λ f. inl (omega arith);
+        }
+    reaches (suc n) j x h e g =
         let y = seenAt site (x .satellite) (x .next) in
         let e′ : x .next + step ≡ at (suc j) = omega (arith, e) in
-        by-sample n j x y (inCalendar (x .next)) (lt least (y .sine)) (ap inCalendar (sym e)) (ap p (sym e) ∙ told (x .satellite) (x .next) (lt least (y .sine)) h refl)
-        (none-above n (suc j) (passed step x y) (still-held site k (x .satellite) (x .next) h) e′) f
+        by-sample n j x y (inCalendar (x .next)) (wants (lt least (y .sine))) e (ap inCalendar (sym e))
+        (ap wants (ap p (sym e) ∙ told (x .satellite) (x .next) (lt least (y .sine)) h refl))
+        (reaches n (suc j) (passed step x y) (still-held site k (x .satellite) (x .next) h) e′ refl)
+
+    -- later than the calendar at one sample, so at those after it
+    over : (m i : ℕ) → m ≤ i → inCalendar (at m) ≡ false → inCalendar (at i) ≡ true → ⊥
+    over m i l h z =
+        let g : m * step ≤ i * step = mul-le-mul-right step l in
+        let e : at m < 3155760000000000 = omega (arith, below (at i) z, g) in
+        false≢true (sym h ∙ inside (at m) e)
+
+  -- ── no sample above, of those from t on ──
+
+  module _ (t : ℕ) where
+    begins : (wanted : Bool) (n : ℕ) (s : Satellite) → Held k s → Reached t wanted n 0 (scanned site least wanted step n s t) (scansLeft site least wanted step n s t)
+    unfolding scanned scansLeft begin
+    begins wanted n s h = let e : t ≡ t + 0 * step = omega arith in reaches t wanted n 0 (begin s t) h e refl
+
+    clear-by : (n i m : ℕ) → i < n → inCalendar (t + i * step) ≡ true → (m ≡ n + 0) ⊎ (inCalendar (t + m * step) ≡ false) → (i < m → p (t + i * step) ≡ false) → (m ≤ i) ⊎ (i < m)
+        → p (t + i * step) ≡ false
+    clear-by n i m l z d h (inr g) = h g
+    clear-by n i m l z (inl e) h (inl g) = absurd (omega (arith, e, l, g))
+    clear-by n i m l z (inr c) h (inl g) = impossible (over t true m i g c z)
 
     pub all-below : (n : ℕ) (s : Satellite) → Held k s → scanned site least true step n s t .found ≡ false → NoneAbove p t step n
-    unfolding scanned begin
     all-below n s h f i l z =
-        let e : t ≡ at 0 = omega arith in
-        let j : 0 + i ≡ i = omega arith in
-        ap (λ (m : ℕ). p (at m)) (sym j) ∙ none-above n 0 (begin s t) h e f i l (ap (λ (m : ℕ). inCalendar (at m)) j ∙ z)
+        let r = begins true n s h in
+        clear-by n i (r .m) l z (r .ended f) (λ g. r .missed i (omega arith) g) (split (r .m) i)
 
   -- ── to the first sample not above, from the instant u ──
 
@@ -280,10 +343,43 @@ module _ (site : Site) (k : Model) (least : Float) (step : ℕ) where
     abbrev down : Scan
     down = scanned site least false step j (up .satellite) (up .next)
 
+    reached : Reached t true n 0 up j
+    reached = begins t true n s h
+
+    after-it : Reached (up .next) false j 0 down (scansLeft site least false step j (up .satellite) (up .next))
+    after-it = begins (up .next) false j (up .satellite) (upward n s t h .held)
+
+    earlier : (i : ℕ) → t + i * step < up .next → p (t + i * step) ≡ false
+    earlier i l = by-place (split (reached .m) i)
+      where
+        by-place : (reached .m ≤ i) ⊎ (i < reached .m) → p (t + i * step) ≡ false
+        by-place (inl g) = let w : reached .m * step ≤ i * step = mul-le-mul-right step g in absurd (omega (arith, w, l, reached .next))
+        by-place (inr g) = reached .missed i (omega arith) g
+
+    first : up .found ≡ true → First p t step n (passOf site least step up down (scansLeft site least false step j (up .satellite) (up .next)))
+    unfolding passOf
+    first f =
+        let u = upward n s t h in
+        let d = downward (up .next) j (up .satellite) (u .held) (u .hit f) in
+        record {
+          before = λ i l. earlier i (omega (arith, l, rise-upto up down (scansLeft site least false step j (up .satellite) (up .next)) hs u f d (u .below)));
+          onward = going-on (down .found) refl;
+        }
+      where
+        going-on : (b : Bool) → down .found ≡ b → not b ≡ false
+            → Onward t step n (down .next) (cond b (scansLeft site least false step j (up .satellite) (up .next)) 0)
+        going-on true e z =
+            record {
+              m = reached .m + after-it .m;
+              at = omega (arith, reached .next, after-it .next);
+              rest = omega (arith, reached .counted f, after-it .counted e);
+            }
+        going-on false e z = impossible (false≢true (sym z))
+
     by-found : (b : Bool) → up .found ≡ b → Right p t step n (cond b (passing.Found (passOf site least step up down (scansLeft site least false step j (up .satellite) (up .next)))) passing.Nothing)
     by-found true f =
         let u = upward n s t h in
-        refined up down (scansLeft site least false step j (up .satellite) (up .next)) hs u f (downward (up .next) j (up .satellite) (u .held) (u .hit f))
+        (refined up down (scansLeft site least false step j (up .satellite) (up .next)) hs u f (downward (up .next) j (up .satellite) (u .held) (u .hit f)), first f)
     by-found false f = all-below t n s h f
 
     pub right : Right p t step n (searched site least step n s t)

@@ -1,5 +1,6 @@
 -- An edge found by halving has its two sides a microsecond apart.
 use mathlib.Core.Path.{_≡_, refl, sym, ap, _∙_, subst}
+use mathlib.Core.Logic.{_⊎_, inl, inr}
 use mathlib.Core.Bool.{Bool, true, false, cond, _&&_, false≢true}
 use Prim.Native.Nat.{ℕ, zero, suc, _+_, _-_, _*_, _/_, _^_, _≤_, _<_}
 use native.Mathlib.Omega.{arith}
@@ -25,6 +26,13 @@ less-by a b false h l n = let g : b ≤ a = ltb-false a b h in let e : a ≡ b =
 
 pub less-than : (a b : ℕ) → a ≤ b → (a ≡ b → ⊥) → a < b
 less-than a b l n = less-by a b (ltb a b) refl l n
+
+split-by : (a b : ℕ) (q : Bool) → ltb b a ≡ q → (a ≤ b) ⊎ (b < a)
+split-by a b true h = inr (ltb-true b a h)
+split-by a b false h = inl (ltb-false b a h)
+
+pub split : (a b : ℕ) → (a ≤ b) ⊎ (b < a)
+split a b = split-by a b (ltb b a) refl
 
 and-first : (a b : Bool) → (a && b) ≡ true → a ≡ true
 and-first true b h = refl

@@ -27,12 +27,24 @@ pub record Refined (p : ℕ → Bool) (x : Pass) : Type 0 where
   pub sets : x .still ≡ false → (p (x .set .0) ≡ true) × (p (x .set .0 + 1) ≡ false)
   pub highest : (x .rise .0 ≤ x .highest .0) × (x .highest .0 ≤ x .set .0)
 
+-- Of n samples from t on, a step of microseconds apart:
+--   before   none before the rise is above
+--   onward   where the pass set, the next call goes on at one of them, sample m, with those that are left
+pub record Onward (t step n next left : ℕ) : Type 0 where
+  pub m : ℕ
+  pub at : next ≡ t + m * step
+  pub rest : left + m ≡ n
+
+pub record First (p : ℕ → Bool) (t step n : ℕ) (x : Pass) : Type 0 where
+  pub before : (i : ℕ) → t + i * step < x .rise .0 → p (t + i * step) ≡ false
+  pub onward : x .still ≡ false → Onward t step n (x .next .0) (x .left)
+
 -- of n samples from t on, a step of microseconds apart, none that the calendar has is above
 abbrev pub NoneAbove : (ℕ → Bool) → ℕ → ℕ → ℕ → Type 0
 NoneAbove p t step n = (i : ℕ) → i < n → inCalendar (t + i * step) ≡ true → p (t + i * step) ≡ false
 
 abbrev pub Right : (ℕ → Bool) → ℕ → ℕ → ℕ → Passing → Type 0
-Right p t step n (passing.Found x) = Refined p x
+Right p t step n (passing.Found x) = Refined p x × First p t step n x
 Right p t step n passing.Nothing = NoneAbove p t step n
 Right p t step n (passing.Refused r) = Unit {0}
 
