@@ -2,8 +2,8 @@
 use mathlib.Core.Path.{_≡_, refl, sym, ap, _∙_, subst}
 use mathlib.Core.Logic.{_⊎_, inl, inr}
 use mathlib.Core.Bool.{Bool, true, false, cond, not, false≢true}
-use Prim.Native.Nat.{ℕ, zero, suc, _+_, _-_, _*_, _^_, _≤_, _<_}
-use native.Mathlib.Nat.{eq-or-lt-of-le, mul-le-mul-right}
+use Prim.Native.Nat.{ℕ, zero, suc, _+_, _-_, _*_, _^_, _≤_, _<_, max, min}
+use native.Mathlib.Nat.{eq-or-lt-of-le, le-of-suc-le-suc, mul-le-mul-right}
 use native.Mathlib.Omega.{arith}
 use lib.Dec.{eqb}
 use lib.Ieee.{Float, lt}
@@ -21,6 +21,7 @@ use Rattle.geodetic.specs.declared.Geodetic.{Geodetic}
 use Rattle.geodetic.specs.declared.Site.{Site}
 use Rattle.geodetic.specs.Geodetic.{siteOf}
 use Rattle.opening.specs.declared.opening.Satellite.{Satellite}
+use Rattle.horizon.specs.Horizon.{nadir}
 use Rattle.sightings.specs.declared.Seen.{Seen}
 use Rattle.sightings.specs.Sightings.{seenAt}
 use Rattle.sequences.specs.Demand3.{none}
@@ -30,13 +31,14 @@ use Rattle.passes.specs.declared.Scan.{Scan}
 use Rattle.passes.specs.declared.Pass.{Pass}
 use Rattle.passes.specs.declared.Passing.{Passing}
 use Rattle.passes.specs.declared.Passing.the-variants as passing
-use Rattle.pass_edges.specs.Search.{sineAt, aboveAt, until, leftOver, edge, summit}
+use Rattle.pass_edges.specs.Search.{sineAt, aboveAt, until, leftOver, edge, climbed, summit}
 use Rattle.passes.specs.Samples.{hits, higher, begin, stopped, passed, judged, sampled, stops}
 use Rattle.passes.specs.Passes.{passRefusal, scanned, scansLeft, after, leftOf, passOf, searched, nextPass}
 use Rattle.passes.proofs.Steps.{short-step}
 use Rattle.pass_claims.specs.Claims.{Refined, Onward, First, NoneAbove, Right, OpenedPasses}
 use Rattle.pass_claims.proofs.Edges.{impossible, differ, less-than, split, edge-rises, edge-sets, edge-same}
 use Rattle.pass_claims.proofs.Tops.{summit-within}
+use Rattle.pass_claims.proofs.Order.{lt-trans, lt-self, still-not}
 use Rattle.pass_claims.proofs.Held.{Held, same-sine, still-held}
 
 -- ── what every step of a scan keeps, the scan keeps ──
@@ -52,6 +54,9 @@ kept P stop next h (suc n) x s = let t = h x s in kept-by P (next x) (until stop
 
 module _ (site : Site) (k : Model) (least : Float) (step : ℕ) where
   -- the satellite newly opened, asked one instant alone
+  abbrev f : ℕ → Float
+  f = sineAt site (satelliteAt k none)
+
   abbrev p : ℕ → Bool
   p = aboveAt site least (satelliteAt k none)
 
@@ -120,8 +125,6 @@ module _ (site : Site) (k : Model) (least : Float) (step : ℕ) where
       pub next : z .next ≡ at m
       pub missed : (i : ℕ) → j ≤ i → i < m → wants (p (at i)) ≡ false
       pub counted : z .found ≡ true → left + m ≡ n + j
-      pub some : z .found ≡ true → 1 ≤ left
-      pub inside : z .found ≡ true → inCalendar (at m) ≡ true
       pub ended : z .found ≡ false → (m ≡ n + j) ⊎ (inCalendar (at m) ≡ false)
 
     missed-by : (j m i : ℕ) → wants (p (at j)) ≡ false → ((i : ℕ) → suc j ≤ i → i < m → wants (p (at i)) ≡ false) → (j ≡ i) ⊎ (j < i) → i < m → wants (p (at i)) ≡ false
@@ -142,8 +145,6 @@ module _ (site : Site) (k : Model) (least : Float) (step : ℕ) where
           next = e;
           missed = λ i a b. absurd (omega (arith, a, b));
           counted = λ h. impossible (false≢true h);
-          some = λ h. impossible (false≢true h);
-          inside = λ h. impossible (false≢true h);
           ended = λ h. inr ec;
         }
     by-sample n j x y true true e ec eq r =
@@ -152,8 +153,6 @@ module _ (site : Site) (k : Model) (least : Float) (step : ℕ) where
           next = e;
           missed = λ i a b. absurd (omega (arith, a, b));
           counted = λ h. refl;
-          some = λ h. omega arith;
-          inside = λ h. ec;
           ended = λ h. impossible (false≢true (sym h));
         }
     by-sample n j x y true false e ec eq r =
@@ -162,8 +161,6 @@ module _ (site : Site) (k : Model) (least : Float) (step : ℕ) where
           next = r .next;
           missed = λ i a b. missed-by j (r .m) i eq (r .missed) (eq-or-lt-of-le a) b;
           counted = λ h. omega (arith, r .counted h);
-          some = r .some;
-          inside = r .inside;
           ended = λ h. ended-by n j (r .m) (r .ended h);
         }
 
@@ -175,8 +172,6 @@ module _ (site : Site) (k : Model) (least : Float) (step : ℕ) where
           next = e;
           missed = λ i a b. absurd (omega (arith, a, b));
           counted = λ f. impossible (false≢true (sym g ∙ f));
-          some = λ f. impossible (false≢true (sym g ∙ f));
-          inside = λ f. impossible (false≢true (sym g ∙ f));
           ended = λ f. inl (omega arith);
         }
     reaches (suc n) j x h e g =
@@ -274,6 +269,93 @@ module _ (site : Site) (k : Model) (least : Float) (step : ℕ) where
     unfolding scanned
     downward n s h e = kept Down stops (sampled (seenAt site) least false step) down-step n (begin s u) (down-begin s h e)
 
+  -- ── the highest sample, of those from u on ──
+
+  module _ (u : ℕ) (high : lt nadir (f u) ≡ true) where
+    pub record Top (x : Scan) : Type 0 where
+      pub held : Held k (x .satellite)
+      pub j : ℕ
+      pub next : x .next ≡ u + j * step
+      pub best : (i : ℕ) → i < j → lt (x .best .sine) (f (u + i * step)) ≡ false
+      pub known : (x .best .sine ≡ f (x .best .at)) ⊎ ((j ≡ 0) × (x .best .sine ≡ nadir))
+
+    module _ (b : Best) (w j : ℕ) (y : Float) (ew : w ≡ u + j * step) (ey : y ≡ f w) (best : (i : ℕ) → i < j → lt (b .sine) (f (u + i * step)) ≡ false) where
+      here : y ≡ f (u + j * step)
+      here = ey ∙ ap f ew
+
+      new-best : lt (b .sine) y ≡ true → (i : ℕ) → (i ≡ j) ⊎ (i < j) → lt y (f (u + i * step)) ≡ false
+      new-best h i (inl e) = ap (λ (m : ℕ). lt y (f (u + m * step))) e ∙ sym (ap (lt y) here) ∙ lt-self y
+      new-best h i (inr l) = still-not (b .sine) y (f (u + i * step)) h (best i l)
+
+      old-best : lt (b .sine) y ≡ false → (i : ℕ) → (i ≡ j) ⊎ (i < j) → lt (b .sine) (f (u + i * step)) ≡ false
+      old-best h i (inl e) = ap (λ (m : ℕ). lt (b .sine) (f (u + m * step))) e ∙ sym (ap (lt (b .sine)) here) ∙ h
+      old-best h i (inr l) = best i l
+
+      -- the first sample is higher than straight down
+      old-known : lt (b .sine) y ≡ false → (b .sine ≡ f (b .at)) ⊎ ((j ≡ 0) × (b .sine ≡ nadir)) → (b .sine ≡ f (b .at)) ⊎ ((suc j ≡ 0) × (b .sine ≡ nadir))
+      old-known h (inl e) = inl e
+      old-known h (inr z) =
+          let zero-step : u + 0 * step ≡ u = omega arith in
+          let e : u + j * step ≡ u = ap (λ (m : ℕ). u + m * step) (z .0) ∙ zero-step in
+          impossible (false≢true (sym h ∙ ap (λ (q : Float). lt q y) (z .1) ∙ ap (lt nadir) (here ∙ ap f e) ∙ high))
+
+    top-by : (x : Scan) (y : Seen) (q : Bool) → lt (x .best .sine) (y .sine) ≡ q → y .sine ≡ f (x .next) → Held k (y .satellite) → Top x
+        → Top (record { stop = false; found = false; last = x .next; next = x .next + step; best = cond q (record { at = x .next; sine = y .sine }) (x .best); satellite = y .satellite })
+    top-by x y true e ey g r =
+        record {
+          held = g;
+          j = suc (r .j);
+          next = omega (arith, r .next);
+          best = λ i l. new-best (x .best) (x .next) (r .j) (y .sine) (r .next) ey (r .best) e i (eq-or-lt-of-le (le-of-suc-le-suc l));
+          known = inl ey;
+        }
+    top-by x y false e ey g r =
+        record {
+          held = g;
+          j = suc (r .j);
+          next = omega (arith, r .next);
+          best = λ i l. old-best (x .best) (x .next) (r .j) (y .sine) (r .next) ey (r .best) e i (eq-or-lt-of-le (le-of-suc-le-suc l));
+          known = old-known (x .best) (x .next) (r .j) (y .sine) (r .next) ey (r .best) e (r .known);
+        }
+
+    top-passed : (x : Scan) → Top x → Top (passed step x (seenAt site (x .satellite) (x .next)))
+    unfolding passed higher
+    top-passed x r =
+        let y = seenAt site (x .satellite) (x .next) in
+        top-by x y (lt (x .best .sine) (y .sine)) refl (same-sine site k (x .satellite) (x .next) (r .held)) (still-held site k (x .satellite) (x .next) (r .held)) r
+
+    top-stopped : (b : Bool) (x : Scan) → Top x → Top (stopped b x)
+    unfolding stopped
+    top-stopped b x r = record { held = r .held; j = r .j; next = r .next; best = r .best; known = r .known }
+
+    top-step : (x : Scan) → Top x → Top (sampled (seenAt site) least false step x)
+    unfolding sampled judged hits
+    top-step x r =
+        let y = seenAt site (x .satellite) (x .next) in
+        kept-by Top (cond (not (lt least (y .sine))) (stopped true x) (passed step x y)) (stopped false x) (inCalendar (x .next))
+        (kept-by Top (stopped true x) (passed step x y) (not (lt least (y .sine))) (top-stopped true x r) (top-passed x r)) (top-stopped false x r)
+
+    top-begin : (s : Satellite) → Held k s → Top (begin s u)
+    unfolding begin
+    top-begin s h = record { held = h; j = 0; next = omega arith; best = λ i l. absurd (omega (arith, l)); known = inr (refl, refl) }
+
+    pub topped : (n : ℕ) (s : Satellite) → Held k s → Top (scanned site least false step n s u)
+    unfolding scanned
+    topped n s h = kept Top stops (sampled (seenAt site) least false step) top-step n (begin s u) (top-begin s h)
+
+  -- the highest point is as high as the highest sample
+  climb-by : (g : ℕ → Float) → ((t : ℕ) → g t ≡ f t) → (b : Best) (m : ℕ) (w : Float) → b .sine ≡ f (b .at) → lt (b .sine) w ≡ false
+      → (q : Bool) → lt (b .sine) (g m) ≡ q → lt (f (cond q m (b .at))) w ≡ false
+  climb-by g same b m w e l true h = still-not (b .sine) (f m) w (sym (ap (lt (b .sine)) (same m)) ∙ h) l
+  climb-by g same b m w e l false h = sym (ap (λ (s : Float). lt s w) e) ∙ l
+
+  summit-tops : (g : ℕ → Float) → ((t : ℕ) → g t ≡ f t) → (b : Best) (rise set : ℕ) (w : Float) → b .sine ≡ f (b .at) → lt (b .sine) w ≡ false
+      → lt (f (summit g b rise set step)) w ≡ false
+  unfolding summit
+  summit-tops g same b rise set w e l =
+      let m = climbed g (max rise (b .at - step)) (min set (b .at + step)) in
+      climb-by g same b m w e l (lt (b .sine) (g m)) refl
+
   -- ── the pass ──
 
   module _ (up down : Scan) (left : ℕ) (hs : step ≤ 86400000000) (u : Up up) (f : up .found ≡ true) (d : Down (up .next) down) where
@@ -356,14 +438,43 @@ module _ (site : Site) (k : Model) (least : Float) (step : ℕ) where
         by-place (inl g) = let w : reached .m * step ≤ i * step = mul-le-mul-right step g in absurd (omega (arith, w, l, reached .next))
         by-place (inr g) = reached .missed i (omega arith) g
 
-    first : up .found ≡ true → First p t step n (passOf site least step up down (scansLeft site least false step j (up .satellite) (up .next)))
+    module _ (rise set : ℕ) (g : up .found ≡ true) (low : lt nadir least ≡ true) (i : ℕ) (a : p (t + i * step) ≡ true) (l : t + i * step < down .next) where
+      abbrev seen : lt nadir (f (up .next)) ≡ true
+      seen = lt-trans nadir least (f (up .next)) low (upward n s t h .hit g)
+
+      abbrev top : Top (up .next) seen down
+      top = topped (up .next) seen j (up .satellite) (upward n s t h .held)
+
+      abbrev Highest : Type 0
+      Highest = lt (f (summit (sineAt site (up .satellite)) (down .best) rise set step)) (f (t + i * step)) ≡ false
+
+      at-top : (m : ℕ) → t + i * step ≡ up .next + m * step → (top .j ≤ m) ⊎ (m < top .j) → (down .best .sine ≡ f (down .best .at)) ⊎ ((top .j ≡ 0) × (down .best .sine ≡ nadir)) → Highest
+      at-top m e (inl z) q = let w : top .j * step ≤ m * step = mul-le-mul-right step z in absurd (omega (arith, w, e, l, top .next))
+      at-top m e (inr z) (inr q) = absurd (omega (arith, z, q .0))
+      at-top m e (inr z) (inl q) =
+          summit-tops (sineAt site (up .satellite)) (λ v. same-sine site k (up .satellite) v (upward n s t h .held)) (down .best) rise set (f (t + i * step)) q
+          (ap (λ (v : ℕ). lt (down .best .sine) (f v)) e ∙ top .best m z)
+
+      by-place : (reached .m ≤ i) ⊎ (i < reached .m) → Highest
+      by-place (inl z) =
+          let d : i ≡ reached .m + (i - reached .m) = omega (arith, z) in
+          let e′ : t + i * step ≡ t + (reached .m + (i - reached .m)) * step = ap (λ (v : ℕ). t + v * step) d in
+          let e : t + i * step ≡ up .next + (i - reached .m) * step = omega (arith, e′, reached .next) in
+          at-top (i - reached .m) e (split (top .j) (i - reached .m)) (top .known)
+      by-place (inr z) = impossible (false≢true (sym (reached .missed i (omega arith) z) ∙ a))
+
+      highest-of : Highest
+      highest-of = by-place (split (reached .m) i)
+
+    first : up .found ≡ true → First f least t step n (passOf site least step up down (scansLeft site least false step j (up .satellite) (up .next)))
     unfolding passOf
-    first f =
+    first g =
         let u = upward n s t h in
-        let d = downward (up .next) j (up .satellite) (u .held) (u .hit f) in
+        let d = downward (up .next) j (up .satellite) (u .held) (u .hit g) in
         record {
-          before = λ i l. earlier i (omega (arith, l, rise-upto up down (scansLeft site least false step j (up .satellite) (up .next)) hs u f d (u .below)));
+          before = λ i l. earlier i (omega (arith, l, rise-upto up down (scansLeft site least false step j (up .satellite) (up .next)) hs u g d (u .below)));
           onward = going-on (down .found) refl;
+          tops = highest-of _ _ g;
         }
       where
         going-on : (b : Bool) → down .found ≡ b → not b ≡ false
@@ -372,17 +483,17 @@ module _ (site : Site) (k : Model) (least : Float) (step : ℕ) where
             record {
               m = reached .m + after-it .m;
               at = omega (arith, reached .next, after-it .next);
-              rest = omega (arith, reached .counted f, after-it .counted e);
+              rest = omega (arith, reached .counted g, after-it .counted e);
             }
         going-on false e z = impossible (false≢true (sym z))
 
-    by-found : (b : Bool) → up .found ≡ b → Right p t step n (cond b (passing.Found (passOf site least step up down (scansLeft site least false step j (up .satellite) (up .next)))) passing.Nothing)
-    by-found true f =
+    by-found : (b : Bool) → up .found ≡ b → Right f least t step n (cond b (passing.Found (passOf site least step up down (scansLeft site least false step j (up .satellite) (up .next)))) passing.Nothing)
+    by-found true g =
         let u = upward n s t h in
-        (refined up down (scansLeft site least false step j (up .satellite) (up .next)) hs u f (downward (up .next) j (up .satellite) (u .held) (u .hit f)), first f)
-    by-found false f = all-below t n s h f
+        (refined up down (scansLeft site least false step j (up .satellite) (up .next)) hs u g (downward (up .next) j (up .satellite) (u .held) (u .hit g)), first g)
+    by-found false g = all-below t n s h g
 
-    pub right : Right p t step n (searched site least step n s t)
+    pub right : Right f least t step n (searched site least step n s t)
     unfolding searched
     right = by-found (up .found) refl
 
@@ -392,18 +503,18 @@ unfolding nextPass
 opened s g least t step n b e = ap (λ z. cond z (searched (siteOf g) (sinOf (radiansOf least)) (step * 1000000) n s t) (passing.Refused (passRefusal g least step))) e
 
 by-refusal : (s : Satellite) → Held (s .model) s → (g : Geodetic) (least : Float) (t step n : ℕ) (b : Bool) → eqb (passRefusal g least step) 0 ≡ b
-    → Right (aboveAt (siteOf g) (sinOf (radiansOf least)) (satelliteAt (s .model) none)) t (step * 1000000) n (cond b (searched (siteOf g) (sinOf (radiansOf least)) (step * 1000000) n s t) (passing.Refused (passRefusal g least step)))
+    → Right (sineAt (siteOf g) (satelliteAt (s .model) none)) (sinOf (radiansOf least)) t (step * 1000000) n (cond b (searched (siteOf g) (sinOf (radiansOf least)) (step * 1000000) n s t) (passing.Refused (passRefusal g least step)))
 by-refusal s h g least t step n true e =
     let w : step ≤ 86400 = short-step g least step (eqb-true (passRefusal g least step) 0 e) in
     right (siteOf g) (s .model) (sinOf (radiansOf least)) (step * 1000000) s h (omega (arith, w)) n t
 by-refusal s h g least t step n false e = tt
 
 answered-by : (s : Satellite) → Held (s .model) s → (g : Geodetic) (least : Float) (t step n : ℕ) (b : Bool) → eqb (passRefusal g least step) 0 ≡ b
-    → Right (aboveAt (siteOf g) (sinOf (radiansOf least)) (satelliteAt (s .model) none)) t (step * 1000000) n (nextPass s g least t step n)
+    → Right (sineAt (siteOf g) (satelliteAt (s .model) none)) (sinOf (radiansOf least)) t (step * 1000000) n (nextPass s g least t step n)
 answered-by s h g least t step n b e =
-    subst (Right (aboveAt (siteOf g) (sinOf (radiansOf least)) (satelliteAt (s .model) none)) t (step * 1000000) n) (sym (opened s g least t step n b e)) (by-refusal s h g least t step n b e)
+    subst (Right (sineAt (siteOf g) (satelliteAt (s .model) none)) (sinOf (radiansOf least)) t (step * 1000000) n) (sym (opened s g least t step n b e)) (by-refusal s h g least t step n b e)
 
 pub opened-passes : OpenedPasses
 opened-passes r s h g least t step n =
     let at : s ≡ satelliteAt (s .model) none = ap (λ (z : Place). record { model = s .model; place = z }) (opened-place r s h ∙ sym (position-zero (integratorOf (s .model)) Forward)) in
-    subst (λ (z : Satellite). Right (aboveAt (siteOf g) (sinOf (radiansOf least)) z) t (step * 1000000) n (nextPass s g least t step n)) (sym at) (answered-by s (record { last = none; at = at }) g least t step n (eqb (passRefusal g least step) 0) refl)
+    subst (λ (z : Satellite). Right (sineAt (siteOf g) z) (sinOf (radiansOf least)) t (step * 1000000) n (nextPass s g least t step n)) (sym at) (answered-by s (record { last = none; at = at }) g least t step n (eqb (passRefusal g least step) 0) refl)

@@ -1,4 +1,5 @@
 mod Edges
 mod Tops
+mod Order
 mod Held
 pub mod Claims
