@@ -104,6 +104,9 @@ pub fn print_passes(
     while count < 4294967295 {
         let found = next_pass(satellite, station, least, Instant(t), Seconds(step), left);
         print_passing(failed, satellite, station, count, found);
+        if *failed {
+            return;
+        }
         let Passing::Found(p) = found else {
             return;
         };
