@@ -8,11 +8,15 @@ catalogue number with a letter is, are the reader's of tle_pairs.py.
   print_cases.py --write INPUT EXPECTED
       writes each input as one line, `|` for a newline and `~` for a carriage
       return, and for each what is printed, after a line `case N`.
+  print_cases.py --hold PROGRAM
+      runs the program on each input, at once and byte by byte; the last line is
+      'N passed, M failed'.
   print_cases.py
       prints how many cases there are.
 """
 
 import argparse
+import subprocess
 import sys
 from pathlib import Path
 
@@ -132,9 +136,36 @@ def inputs():
 
 # ------------------------------------------------------------------ the program
 
+def output(program, pieces):
+    """What the program prints of an input in these pieces. It may end before it has read them all."""
+    run = subprocess.Popen([program], stdin=subprocess.PIPE, stdout=subprocess.PIPE, bufsize=0)
+    try:
+        for piece in pieces:
+            run.stdin.write(piece)
+    except BrokenPipeError:
+        pass
+    run.stdin.close()
+    text = run.stdout.read()
+    run.wait()
+    return text
+
+
+def hold(program, cases):
+    failed = 0
+    for n, case in enumerate(cases, 1):
+        expected = printed(case).encode()
+        for pieces in ([case], [case[i:i + 1] for i in range(len(case))]):
+            if output(program, pieces) != expected:
+                failed += 1
+                print(f"print_pair, case {n} in {len(pieces)} pieces: FAILED")
+    print(f"{2 * len(cases) - failed} passed, {failed} failed")
+    return failed > 0
+
+
 def main():
     parser = argparse.ArgumentParser(description=__doc__.split("\n")[0])
     parser.add_argument("--write", nargs=2, metavar=("INPUT", "EXPECTED"))
+    parser.add_argument("--hold", metavar="PROGRAM")
     options = parser.parse_args()
     cases = list(inputs())
     assert not any(mark in case for case in cases for mark in b"|~")
@@ -143,6 +174,8 @@ def main():
         texts = (f"case {n}\n{printed(case)}" for n, case in enumerate(cases, 1))
         Path(options.write[0]).write_bytes(b"".join(lines))
         Path(options.write[1]).write_text("".join(texts))
+    elif options.hold:
+        sys.exit(hold(options.hold, cases))
     else:
         print(len(cases), "cases")
 

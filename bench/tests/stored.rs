@@ -183,8 +183,8 @@ fn keep_roster() {
 }
 
 #[test]
-fn test_listing() {
-    written("tests/print_cases.py", "crates/test_listing");
+fn cases_of_print_pair() {
+    written("tests/print_cases.py", "crates/print_pair/cases");
 }
 
 #[test]
