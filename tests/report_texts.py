@@ -8,7 +8,12 @@ perigee) and document 01's refusals 7 and 8; every pair that is used lies far fr
 these limits.
 
   report_texts.py --write INPUT EXPECTED
-      writes texts in steps, as crate test_report reads them, and their reports.
+      writes texts in steps, and their reports. A step is a line `list SIZE TIMES PIECE`
+      and SIZE bytes behind the newline: these bytes come TIMES times, each time in
+      pieces of PIECE bytes, the last one shorter. Any other line ends a text.
+  report_texts.py --hold PROGRAM
+      runs monday_report on each of these texts, in these pieces; the last line is
+      'N passed, M failed'.
   report_texts.py --program INPUT EXPECTED
       writes the text that monday_report is run on, and its report.
   report_texts.py --report
@@ -16,8 +21,13 @@ these limits.
 """
 
 import argparse
+import fcntl
 import math
+import os
+import struct
+import subprocess
 import sys
+import termios
 from datetime import date, timedelta
 from pathlib import Path
 
@@ -140,16 +150,18 @@ class Texts:
     def __init__(self):
         self.given = b""
         self.expected = ""
+        self.cases = []
 
     def text(self, name, *steps):
         """A text of steps: bytes, or bytes, how often they come, and the size of the pieces."""
         whole = b""
-        for step in steps:
-            bytes_, times, piece = step if isinstance(step, tuple) else (step, 1, 0)
+        steps = [step if isinstance(step, tuple) else (step, 1, 0) for step in steps]
+        for bytes_, times, piece in steps:
             self.given += b"list %d %d %d\n" % (len(bytes_), times, piece) + bytes_
             whole += bytes_ * times
         self.given += name.encode() + b"\n"
         self.expected += report(whole)
+        self.cases.append((name, steps, report(whole)))
 
 
 def texts():
@@ -200,9 +212,47 @@ def texts():
     return t
 
 
+# ------------------------------------------------------------------ the program
+
+def unread(pipe):
+    return struct.unpack("i", fcntl.ioctl(pipe, termios.FIONREAD, b"\0" * 4))[0]
+
+
+def feed(run, steps):
+    """Where a step has a size of pieces, each is written once the one before it has been read; without one the step is
+    written whole."""
+    for bytes_, times, piece in steps:
+        if not piece:
+            run.stdin.write(bytes_ * times)
+            continue
+        for at in list(range(0, len(bytes_), piece)) * times:
+            while unread(run.stdin) and run.poll() is None:
+                os.sched_yield()
+            run.stdin.write(bytes_[at:at + piece])
+        while unread(run.stdin) and run.poll() is None:
+            os.sched_yield()
+
+
+def hold(program):
+    failed = 0
+    cases = texts().cases
+    for name, steps, expected in cases:
+        run = subprocess.Popen([program], stdin=subprocess.PIPE, stdout=subprocess.PIPE, bufsize=0)
+        try:
+            feed(run, steps)
+        except BrokenPipeError:
+            pass
+        if run.communicate()[0].decode() != expected:
+            failed += 1
+            print(f"monday_report, {name}: FAILED")
+    print(f"{len(cases) - failed} passed, {failed} failed")
+    return failed > 0
+
+
 def main():
     words = argparse.ArgumentParser(description=__doc__, formatter_class=argparse.RawDescriptionHelpFormatter)
     words.add_argument("--write", nargs=2, metavar=("INPUT", "EXPECTED"))
+    words.add_argument("--hold", metavar="PROGRAM")
     words.add_argument("--program", nargs=2, metavar=("INPUT", "EXPECTED"))
     words.add_argument("--report", action="store_true")
     words = words.parse_args()
@@ -210,6 +260,8 @@ def main():
         made = texts()
         Path(words.write[0]).write_bytes(made.given)
         Path(words.write[1]).write_text(made.expected)
+    if words.hold:
+        sys.exit(hold(words.hold))
     if words.program:
         Path(words.program[0]).write_bytes(mixed()[:-1])
         Path(words.program[1]).write_text(report(mixed()[:-1]))

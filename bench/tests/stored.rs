@@ -104,8 +104,8 @@ fn test_roster() {
 }
 
 #[test]
-fn test_report() {
-    written("tests/report_texts.py", "crates/test_report");
+fn texts_of_monday_report() {
+    written("tests/report_texts.py", "crates/monday_report/cases");
 }
 
 #[test]
