@@ -191,6 +191,13 @@ pub fn lunar_of(epoch: Days, tc: Minutes) -> Lunar
     }
 }
 
+// zcosh of the Moon's pass, 2120.
+fn moon_zcosh(o: Angles, l: Lunar) -> f64
+    ensures { λ r. ⌜ r ≡ D.moonOf o l .zcosh ⌝ }
+{
+    l.zcoshl * o.cnodm + l.zsinhl * o.snodm
+}
+
 fn moon_of(o: Angles, l: Lunar) -> Body
     ensures { λ r. ⌜ r ≡ D.moonOf o l ⌝ }
 {
@@ -199,7 +206,7 @@ fn moon_of(o: Angles, l: Lunar) -> Body
         zsing: l.zsingl,
         zcosi: l.zcosil,
         zsini: l.zsinil,
-        zcosh: l.zcoshl * o.cnodm + l.zsinhl * o.snodm,
+        zcosh: moon_zcosh(o, l),
         zsinh: o.snodm * l.zcoshl - o.cnodm * l.zsinhl,
         cc: 4.7968065e-7,
     }
