@@ -63,9 +63,14 @@ fn report_all(failed: &mut bool, input: &[u8]) {
     report_unknown(failed, input);
 }
 
+// A room of its own function is an array of that size to its caller, and not a list of so many zeros.
+fn room() -> [u8; 524288] {
+    [0; 524288]
+}
+
 fn main() {
     let mut failed = false;
-    let mut space = [0u8; 524288];
+    let mut space = room();
     let n = streams::read_all(&mut failed, &mut space);
     if n == 524288 {
         print(&mut failed, b"the input is too long\n");
