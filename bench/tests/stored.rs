@@ -1,5 +1,5 @@
-//! The stored inputs and expected outputs of the programs under crates/ are what
-//! the independent scripts and this port make of them today.
+//! The stored inputs and expected outputs of the programs under crates/ and in
+//! tests/cases/ are what the independent scripts and this port make of them today.
 
 use port::request::{Row, Satellite};
 use port::tle::{self, Refusal};
@@ -43,17 +43,27 @@ fn test_checksum() {
     assert!(made == stored("crates/test_checksum/stdout"));
 }
 
-/// A script that writes what a program is run on and what it must print, held
-/// to what is stored in the program's crate.
-fn written(script: &str, program: &str) {
-    let name = program.replace('/', "-");
+/// A script that writes an input and what must be printed of it, held to two stored files.
+fn held(script: &str, paths: [String; 2]) {
+    let name = paths[0].replace('/', "-");
     let folder = std::env::temp_dir().join(format!("{name}-{}", std::process::id()));
     fs::create_dir_all(&folder).unwrap();
-    let (input, expected) = (folder.join("stdin"), folder.join("stdout"));
-    output(Command::new("python3").arg(root().join(script)).arg("--write").arg(&input).arg(&expected));
-    assert!(fs::read(input).unwrap() == stored(&format!("{program}/stdin")));
-    assert!(fs::read(expected).unwrap() == stored(&format!("{program}/stdout")));
+    let files = ["input", "output"].map(|name| folder.join(name));
+    output(Command::new("python3").arg(root().join(script)).arg("--write").args(&files));
+    for (file, path) in files.iter().zip(paths) {
+        assert!(fs::read(file).unwrap() == stored(&path), "{path}");
+    }
     fs::remove_dir_all(folder).unwrap();
+}
+
+/// The files of a program.
+fn written(script: &str, program: &str) {
+    held(script, ["stdin", "stdout"].map(|name| format!("{program}/{name}")));
+}
+
+/// The files of tests/cases/, which the tests of ../rust put to the library.
+fn cases(script: &str, name: &str) {
+    held(script, ["input", "output"].map(|file| format!("tests/cases/{name}/{file}")));
 }
 
 /// Inputs and outputs made from the published rows, which vectors.rs holds to the port.
@@ -89,8 +99,8 @@ fn print_pair() {
 }
 
 #[test]
-fn test_reading() {
-    written("tests/tle_pairs.py", "crates/test_reading");
+fn reading() {
+    cases("tests/tle_pairs.py", "reading");
 }
 
 #[test]

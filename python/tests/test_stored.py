@@ -1,4 +1,4 @@
-"""The stored cases of the programs, made from the papers by the scripts of tests/, put to the package."""
+"""The stored cases, made from the papers by the scripts of tests/, put to the package."""
 
 from __future__ import annotations
 
@@ -10,6 +10,7 @@ from saddlekerf.layout import may_stand
 from .common import ROOT
 
 CRATES = ROOT / "crates"
+CASES = ROOT / "tests/cases"
 
 
 def numbers(line: str) -> list[int]:
@@ -17,10 +18,10 @@ def numbers(line: str) -> list[int]:
 
 
 class Reading(unittest.TestCase):
-    """Whole and damaged pairs: what `test_reading` says of each."""
+    """Whole and damaged pairs, and what is said of each."""
 
-    lines = (CRATES / "test_reading/stdin").read_bytes().split(b"\n")[:-1]
-    answers = (CRATES / "test_reading/stdout").read_text().splitlines()
+    lines = (CASES / "reading/input").read_bytes().split(b"\n")[:-1]
+    answers = (CASES / "reading/output").read_text().splitlines()
 
     def test_pairs(self) -> None:
         self.assertEqual(len(self.lines), 2 * len(self.answers))

@@ -1,0 +1,6 @@
+//! The stored cases of tests/cases/, made from the papers by scripts of tests/ and by the independent port, put
+//! to the library: what is printed of each input is held to the stored output, byte for byte. A module for each
+//! folder.
+
+mod cases;
+mod reading;
