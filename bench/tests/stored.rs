@@ -104,6 +104,11 @@ fn reading() {
 }
 
 #[test]
+fn fields() {
+    cases("tests/field_numbers.py", "fields");
+}
+
+#[test]
 fn written_lines() {
     written("tests/written_lines.py", "crates/test_writing");
 }

@@ -3,4 +3,5 @@
 //! folder.
 
 mod cases;
+mod fields;
 mod reading;
