@@ -5,3 +5,4 @@
 mod cases;
 mod fields;
 mod reading;
+mod writing;
