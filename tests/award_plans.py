@@ -4,8 +4,8 @@
 Written from wish 11 of document 02, and from nothing else: offers are objects,
 every rule is tried over all pairs, and Python's whole numbers do not overflow.
 
-  award_plans.py --write STDIN STDOUT   the cases of test_award: of each plan three
-                                        lines of numbers, a blank before each (the
+  award_plans.py --write INPUT OUTPUT   the cases of tests/cases/award: of each plan
+                                        three lines of numbers, a blank before each (the
                                         offers, four numbers each and up to three left
                                         over; the entries; total and turnaround), and
                                         the answers, a line each

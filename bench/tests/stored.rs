@@ -157,8 +157,8 @@ fn what_changed() {
 }
 
 #[test]
-fn test_award() {
-    written("tests/award_plans.py", "crates/test_award");
+fn award() {
+    cases("tests/award_plans.py", "award");
 }
 
 #[test]

@@ -77,8 +77,8 @@ class Programs(unittest.TestCase):
         self.assertEqual(f"{text}strides {strides.count}\n", (CRATES / "station_windows/stdout").read_text())
 
     def test_award_plans(self) -> None:
-        lines = (CRATES / "test_award/stdin").read_text().splitlines()
-        answers = (CRATES / "test_award/stdout").read_text().splitlines()
+        lines = (CASES / "award/input").read_text().splitlines()
+        answers = (CASES / "award/output").read_text().splitlines()
         self.assertEqual(len(lines), 3 * len(answers))
         for at, answer in enumerate(answers):
             given, entries, (total, turnaround) = (numbers(line) for line in lines[3 * at : 3 * at + 3])

@@ -2,6 +2,7 @@
 //! to the library: what is printed of each input is held to the stored output, byte for byte. A module for each
 //! folder.
 
+mod award;
 mod cases;
 mod fields;
 mod reading;
