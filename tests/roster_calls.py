@@ -5,8 +5,8 @@ A roster of its own, written from document 02 (wishes 2, 3 and 8) and from nothi
 over the reader of tle_pairs.py and the spelling of written_lines.py.
 
   roster_calls.py --write INPUT EXPECTED
-      writes steps of two lines each, as crate test_roster reads them, and for
-      each call its answer and the buffer afterwards: by places of 138 bytes, a
+      writes steps of two lines each, as rust/tests/stored/roster.rs reads them, and
+      for each call its answer and the buffer afterwards: by places of 138 bytes, a
       zero as `~`, what is not printable as `\\` and two hexadecimal digits, and
       then how many zeros are left; then the row's instants, and how many zeros
       are left of it.
@@ -392,7 +392,6 @@ def main():
     damaged(steps)
     rows(steps)
     instant_zero(steps)
-    assert len(steps.given) < 65536, "more than the program reads"
     given.write_bytes(steps.given)
     expected.write_text(steps.expected)
 

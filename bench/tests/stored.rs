@@ -114,8 +114,8 @@ fn written_lines() {
 }
 
 #[test]
-fn test_roster() {
-    written("tests/roster_calls.py", "crates/test_roster");
+fn roster() {
+    cases("tests/roster_calls.py", "roster");
 }
 
 #[test]

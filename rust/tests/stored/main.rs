@@ -6,4 +6,5 @@ mod award;
 mod cases;
 mod fields;
 mod reading;
+mod roster;
 mod writing;
