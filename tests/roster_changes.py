@@ -3,8 +3,9 @@
 rosters of roster_calls.py.
 
   roster_changes.py --write INPUT EXPECTED
-      writes steps of two lines each, as crate test_compare reads them, and for each
-      comparison its answer, the listing, and how many bytes of the room stayed.
+      writes steps of two lines each, as rust/tests/stored/changes.rs reads them, and
+      for each comparison its answer, the listing, and how many bytes of the room
+      stayed.
   roster_changes.py --files FIRST SECOND EXPECTED
       writes two rosters and the listing that what_changed prints of them.
 """
@@ -237,7 +238,6 @@ def write(given, expected):
     full(steps)
     damaged(steps)
     rows(steps)
-    assert len(steps.given) < 65536, "more than the program reads"
     given.write_bytes(steps.given)
     expected.write_text(steps.expected)
     print(steps.calls, "comparisons,", len(steps.given), "bytes")

@@ -124,8 +124,8 @@ fn texts_of_monday_report() {
 }
 
 #[test]
-fn test_compare() {
-    written("tests/roster_changes.py", "crates/test_compare");
+fn changes() {
+    cases("tests/roster_changes.py", "changes");
 }
 
 #[test]

@@ -4,6 +4,7 @@
 
 mod award;
 mod cases;
+mod changes;
 mod fields;
 mod reading;
 mod roster;
