@@ -203,7 +203,7 @@ fn cases_of_print_pair() {
 }
 
 #[test]
-fn test_opening() {
+fn opening() {
     let set = stored("bench/vectors/SGP4-VER.TLE");
     let mut input = Vec::new();
     for line in set.split(|&byte| byte == b'\n') {
@@ -212,9 +212,9 @@ fn test_opening() {
             input.push(b'\n');
         }
     }
-    assert!(input == stored("crates/test_opening/stdin"));
+    assert!(input == stored("tests/cases/opening/input"));
     let made = output(&mut Command::new(env!("CARGO_BIN_EXE_open_numbers")));
-    assert!(made == stored("crates/test_opening/stdout"));
+    assert!(made == stored("tests/cases/opening/output"));
 }
 
 /// The published positions: what crates/test_positions prints, by the port.

@@ -6,6 +6,7 @@ mod award;
 mod cases;
 mod changes;
 mod fields;
+mod opening;
 mod reading;
 mod roster;
 mod writing;
