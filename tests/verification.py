@@ -1,5 +1,5 @@
 #!/usr/bin/env python3
-"""Prints the input of the crate test_positions: the published pairs, each with its published positions.
+"""Prints tests/cases/positions/input: the published pairs, each with its published positions.
 
 The pairs are those of bench/vectors/SGP4-VER.TLE, the positions those of
 bench/vectors/tcppver.out. Times become whole microseconds and coordinates whole

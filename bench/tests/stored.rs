@@ -217,7 +217,7 @@ fn opening() {
     assert!(made == stored("tests/cases/opening/output"));
 }
 
-/// The published positions: what crates/test_positions prints, by the port.
+/// The published positions: what ../rust/tests/stored/positions.rs prints, by the port.
 #[derive(Default)]
 struct Verification {
     first: String,
@@ -317,13 +317,13 @@ impl Verification {
 }
 
 #[test]
-fn test_positions() {
+fn positions() {
     let made = output(Command::new("python3").arg("tests/verification.py").current_dir(root()));
-    assert!(made == stored("crates/test_positions/stdin"));
+    assert!(made == stored("tests/cases/positions/input"));
     let mut run = Verification::default();
     for line in String::from_utf8(made).unwrap().lines() {
         run.line(line);
     }
     run.end_satellite();
-    assert_eq!(run.printed, String::from_utf8(stored("crates/test_positions/stdout")).unwrap());
+    assert_eq!(run.printed, String::from_utf8(stored("tests/cases/positions/output")).unwrap());
 }

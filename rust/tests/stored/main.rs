@@ -7,6 +7,7 @@ mod cases;
 mod changes;
 mod fields;
 mod opening;
+mod positions;
 mod reading;
 mod roster;
 mod writing;
