@@ -1,11 +1,11 @@
 #!/usr/bin/env python3
-"""Writes stdin and stdout of the crate test_profile from bench/vectors/published-rows.txt.
+"""Writes input and output of tests/cases/profile from bench/vectors/published-rows.txt.
 
     profile_rows.py [FOLDER]
 
 The expected output comes from that file and the words of document 02, wish 13: a pair whose period is 225 minutes
 or more is refused with 32 after 1 to 7, a time below 0 or beyond 30 days gives a row of 33, strides are 0, and a
-satellite marked as resonant refuses every request with 32. The files go into crates/test_profile under FOLDER, or of
+satellite marked as resonant refuses every request with 32. The files go into tests/cases/profile under FOLDER, or of
 this repository where none is named. bench/tests/stored.rs makes them anew.
 """
 
@@ -61,12 +61,12 @@ def script(found):
 
 
 def main():
-    folder = (Path(sys.argv[1]) if len(sys.argv) > 1 else ROOT) / "crates/test_profile"
+    folder = (Path(sys.argv[1]) if len(sys.argv) > 1 else ROOT) / "tests/cases/profile"
     folder.mkdir(parents=True, exist_ok=True)
     text = (ROOT / "bench/vectors/published-rows.txt").read_text()
     asked, answered = script(pairs(text))
-    (folder / "stdin").write_text("\n".join(asked) + "\n")
-    (folder / "stdout").write_text("\n".join(answered) + "\n")
+    (folder / "input").write_text("\n".join(asked) + "\n")
+    (folder / "output").write_text("\n".join(answered) + "\n")
 
 
 main()

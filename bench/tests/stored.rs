@@ -67,27 +67,24 @@ fn cases(script: &str, name: &str) {
 }
 
 /// Inputs and outputs made from the published rows, which vectors.rs holds to the port.
-fn made_from_rows(script: &str, crates: &[&str]) {
+fn made_from_rows(script: &str, paths: [&str; 2]) {
     let folder = std::env::temp_dir().join(format!("{script}-{}", std::process::id()));
     fs::create_dir_all(&folder).unwrap();
     output(Command::new("python3").arg("-B").arg(root().join("tests").join(script)).arg(&folder));
-    for name in crates {
-        for file in ["stdin", "stdout"] {
-            let path = format!("crates/{name}/{file}");
-            assert!(fs::read(folder.join(&path)).unwrap() == stored(&path), "{path}");
-        }
+    for path in paths {
+        assert!(fs::read(folder.join(path)).unwrap() == stored(path), "{path}");
     }
     fs::remove_dir_all(folder).unwrap();
 }
 
 #[test]
 fn published_rows_and_replay() {
-    made_from_rows("published_rows.py", &["replay"]);
+    made_from_rows("published_rows.py", ["crates/replay/stdin", "crates/replay/stdout"]);
 }
 
 #[test]
-fn test_profile() {
-    made_from_rows("profile_rows.py", &["test_profile"]);
+fn profile() {
+    made_from_rows("profile_rows.py", ["tests/cases/profile/input", "tests/cases/profile/output"]);
 }
 
 /// What print_pair reads and prints is document 01's example, by the port.

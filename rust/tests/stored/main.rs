@@ -8,6 +8,8 @@ mod changes;
 mod fields;
 mod opening;
 mod positions;
+#[cfg(feature = "profile")]
+mod profile;
 mod reading;
 mod roster;
 mod writing;
