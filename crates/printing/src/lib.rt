@@ -1,16 +1,9 @@
 // What the programs answer, printed line by line on standard output: a `row` line for each row, or
 // `refused` and the number, and a `strides` line. An answer is the number that lent_requests gives, with
-// the rooms that it filled. And the lines of a comparison: a satellite, times, a tally, why a pair is
-// refused. As in streams, a failure stays marked.
+// the rooms that it filled. As in streams, a failure stays marked.
 ghost use mathlib.Core.Path.{_≡_};
 ghost use mathlib.Core.Bool.{true};
 ghost use Prim.Native.Nat.{_≤_, _<_};
-use comparison::Tally;
-use comparison::is_off;
-use comparison::micrometres;
-use comparison::put_tally;
-use comparison::put_timed;
-use refusal_line::put_refusal;
 use row_line::put_row;
 use streams::print;
 use text::put_line;
@@ -29,33 +22,6 @@ pub fn print_refused(failed: &mut bool, n: u64)
     ensures { λ _. ⌜ (now (failed .entry) ≡ true → now (failed .exit) ≡ true) ⌝ }
 {
     print_number(failed, b"refused ", n);
-}
-
-// A refusal of reading with what comes back with it.
-fn print_refusal(failed: &mut bool, why: tle::Refusal)
-    ensures { λ _. ⌜ (now (failed .entry) ≡ true → now (failed .exit) ≡ true) ⌝ }
-{
-    let mut out = [0u8; 64];
-    let size = put_refusal(&mut out, 0, why);
-    if size <= 64 {
-        print(failed, &out[0..size]);
-    }
-}
-
-// Why two lines are not opened, by the number of the refusal, with what belongs to it where reading refuses
-// them.
-pub fn print_unopened(failed: &mut bool, line1: &[u8], line2: &[u8], number: u64)
-    ensures { λ _. ⌜ (now (failed .entry) ≡ true → now (failed .exit) ≡ true) ⌝ }
-{
-    let form = tle::read_form(line1, line2);
-    let tle::Form::Fields(fields) = form else {
-        print_refusal(failed, form.refusal());
-        return;
-    };
-    match tle::read_meaning(fields) {
-        tle::Reading::Record(_) => print_refused(failed, number),
-        tle::Reading::Refused(why) => print_refusal(failed, why),
-    }
 }
 
 // The parts of an answer's number, as specs/Answer of answers puts them together.
@@ -181,54 +147,4 @@ pub fn refuse_list(failed: &mut bool)
 {
     print_refused(failed, 18);
     print_strides(failed, 18);
-}
-
-// The catalogue number's five columns of a pair's first line as they stand, in a refused line too.
-pub fn print_satellite(failed: &mut bool, line: &[u8])
-    ensures { λ _. ⌜ (now (failed .entry) ≡ true → now (failed .exit) ≡ true) ⌝ }
-{
-    if line.len() < 7 {
-        return;
-    }
-    print(failed, b"satellite ");
-    print(failed, &line[2..7]);
-    print(failed, b"\n");
-}
-
-// A time between a word and a label, and a number.
-pub fn print_timed(failed: &mut bool, word: &[u8], time: i64, label: &[u8], n: u64)
-    ensures { λ _. ⌜ (now (failed .entry) ≡ true → now (failed .exit) ≡ true) ⌝ }
-{
-    let mut out = [0u8; 128];
-    let size = put_timed(&mut out, 0, word, time, label, n);
-    if size <= 128 {
-        print(failed, &out[0..size]);
-    }
-}
-
-// Of a published row: why it is refused, or how far its position is off, if it is.
-pub fn print_compared(failed: &mut bool, time: i64, refusal: u64, km: f64)
-    ensures { λ _. ⌜ (now (failed .entry) ≡ true → now (failed .exit) ≡ true) ⌝ }
-{
-    if refusal > 0 {
-        print_timed(failed, b"at ", time, b" refused ", refusal);
-    } else if is_off(km) {
-        print_timed(
-            failed,
-            b"at ",
-            time,
-            b" off by micrometres ",
-            micrometres(km),
-        );
-    }
-}
-
-pub fn print_tally(failed: &mut bool, tally: Tally)
-    ensures { λ _. ⌜ (now (failed .entry) ≡ true → now (failed .exit) ≡ true) ⌝ }
-{
-    let mut out = [0u8; 256];
-    let size = put_tally(&mut out, 0, tally);
-    if size <= 256 {
-        print(failed, &out[0..size]);
-    }
 }
