@@ -1,2 +1,3 @@
 pub mod Angle
 pub mod Examples
+pub mod Two

@@ -7,6 +7,8 @@ use floats::abs;
 use floats::is_finite;
 use square_root::sqrt;
 
+pub mod pairs;
+
 // The angle of the point (x, y), from -pi to pi.
 pub fn atan2(y: f64, x: f64) -> f64
     ensures { λ r. ⌜ r ≡ atan2Of y x ⌝ }

@@ -4,6 +4,8 @@
 // same everywhere. Every function takes every f64. Nothing is computed here: each function has a
 // crate of its own, and callers name this one.
 pub use arctangent::atan2;
+pub use arctangent::pairs::Angles;
+pub use arctangent::pairs::atan2_two;
 pub use cube_root::cbrt;
 pub use cube_root::seven_halves;
 pub use cube_root::three_halves;

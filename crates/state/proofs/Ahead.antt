@@ -9,9 +9,9 @@ use Rattle.state.specs.declared.parts.Anomaly.{Anomaly}
 use Rattle.state.specs.Secular.{motion}
 use Rattle.state.specs.Periodics.{latus, plane}
 use Rattle.state.specs.Sgp4.{shortened}
-use Rattle.state.specs.Ahead.{aheadOf, planeFrom, shortenedFrom}
+use Rattle.state.specs.Ahead.{aheadOf, inPlane, planeOf, planeFrom, shortenedFrom}
 
 pub shortened-ahead : (p : Perturbed) (am : Float) (k : Terms) (q : Long) (e : Anomaly)
     → shortenedFrom p am k q e (latus q am) (aheadOf am (latus q am)) ≡ shortened p am k q e
-unfolding shortenedFrom shortened aheadOf planeFrom plane motion pow15
+unfolding shortenedFrom shortened aheadOf planeFrom inPlane planeOf plane motion pow15
 shortened-ahead p am k q e = refl

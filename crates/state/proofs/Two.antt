@@ -22,7 +22,7 @@ use Rattle.state.specs.Sgp4.{placed, periodics}
 use Rattle.state.specs.Ahead.{shortenedFrom}
 use Rattle.state.specs.Kept.{averagedFrom, sgp4From}
 use Rattle.state.proofs.Ahead.{shortened-ahead}
-use Rattle.state.specs.Two.{placedTwo, shortenedTwo, solvedOf, periodicsTwo, pairOf, readyOf, averagedTwo, readyTwo}
+use Rattle.state.specs.Two.{placedTwo, planeSolved, shortenedTwo, solvedOf, periodicsTwo, pairOf, readyOf, averagedTwo, readyTwo}
 
 -- ── what is claimed of a pair ──
 
@@ -60,7 +60,7 @@ placed-same s k u n = on (decayed s) (decayed u) (Both _ _) (Refused Decayed) (R
 
 shortened-same : (a b : Solved)
     → Same (shortenedTwo a b) (shortenedFrom (a .p) (a .am) (a .k) (a .q) (a .e) (a .l) (a .a)) (shortenedFrom (b .p) (b .am) (b .k) (b .q) (b .e) (b .l) (b .a))
-unfolding shortenedTwo shortenedFrom
+unfolding shortenedTwo shortenedFrom planeSolved
 shortened-same a b = on (negativeLatus (a .l)) (negativeLatus (b .l)) _ (Refused SemiLatusRectum) (Refused SemiLatusRectum) _ _ (placed-same _ _ _ _)
 
 -- what is the same as two answers is the same as their equals

@@ -12,6 +12,7 @@ use Rattle.state.specs.declared.parts.Long.{Long}
 use Rattle.state.specs.declared.parts.Anomaly.{Anomaly}
 use Rattle.state.specs.declared.parts.Latus.{Latus}
 use Rattle.state.specs.declared.parts.Ahead.{Ahead}
+use Rattle.state.specs.declared.parts.InPlane.{InPlane}
 use Rattle.state.specs.declared.parts.Plane.{Plane}
 use Rattle.state.specs.declared.answer.Refusal.the-variants.{SemiLatusRectum}
 use Rattle.state.specs.declared.answer.Answer.{Answer}
@@ -24,9 +25,9 @@ aheadOf am rectum =
     let root = sqrtOf am in
     record { root = root; nm = xke ⊘ (am ⊗ root); rootpl = sqrtOf (rectum .pl); betal = sqrtOf (dec 1 0 ⊖ rectum .el2) }
 
--- `plane` of what is ahead
-unfoldable pub planeFrom : Long → Anomaly → Float → Latus → Ahead → Plane
-planeFrom long anomaly am rectum ahead =
+-- `plane` of what is ahead, up to the arctangent
+unfoldable pub inPlane : Long → Anomaly → Float → Ahead → InPlane
+inPlane long anomaly am ahead =
     let axnl = long .axnl in
     let aynl = long .aynl in
     let sineo1 = anomaly .sineo1 in
@@ -36,17 +37,23 @@ planeFrom long anomaly am rectum ahead =
     let rl = am ⊗ (dec 1 0 ⊖ ecose) in
     let rdotl = ahead .root ⊗ esine ⊘ rl in
     let rvdotl = ahead .rootpl ⊘ rl in
-    let betal = ahead .betal in
-    let temp = esine ⊘ (dec 1 0 ⊕ betal) in
+    let temp = esine ⊘ (dec 1 0 ⊕ ahead .betal) in
     let sinu = am ⊘ rl ⊗ (sineo1 ⊖ aynl ⊖ axnl ⊗ temp) in
     let cosu = am ⊘ rl ⊗ (coseo1 ⊖ axnl ⊕ aynl ⊗ temp) in
-    let su = atan2Of sinu cosu in
-    let sin2u = (cosu ⊕ cosu) ⊗ sinu in
-    let cos2u = dec 1 0 ⊖ dec 2 0 ⊗ sinu ⊗ sinu in
+    record { rl = rl; rdotl = rdotl; rvdotl = rvdotl; sinu = sinu; cosu = cosu }
+
+-- and from it on
+unfoldable pub planeOf : InPlane → Float → Latus → Float → Plane
+planeOf i su rectum betal =
+    let sin2u = (i .cosu ⊕ i .cosu) ⊗ i .sinu in
+    let cos2u = dec 1 0 ⊖ dec 2 0 ⊗ i .sinu ⊗ i .sinu in
     let temp = dec 1 0 ⊘ rectum .pl in
     let temp1 = dec 5 1 ⊗ j2 ⊗ temp in
     let temp2 = temp1 ⊗ temp in
-    record { rl = rl; rdotl = rdotl; rvdotl = rvdotl; betal = betal; su = su; sin2u = sin2u; cos2u = cos2u; temp1 = temp1; temp2 = temp2 }
+    record { rl = i .rl; rdotl = i .rdotl; rvdotl = i .rvdotl; betal = betal; su = su; sin2u = sin2u; cos2u = cos2u; temp1 = temp1; temp2 = temp2 }
+
+unfoldable pub planeFrom : Long → Anomaly → Float → Latus → Ahead → Plane
+planeFrom long anomaly am rectum ahead = let i = inPlane long anomaly am ahead in planeOf i (atan2Of (i .sinu) (i .cosu)) rectum (ahead .betal)
 
 -- `shortened` of what is ahead
 unfoldable pub shortenedFrom : Perturbed → Float → Terms → Long → Anomaly → Latus → Ahead → Answer

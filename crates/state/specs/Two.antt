@@ -6,6 +6,9 @@ use Rattle.instant.specs.declared.Minutes.{Minutes}
 use Rattle.satellite.specs.declared.NearEarth.{NearEarth}
 use Rattle.state.specs.declared.parts.Secular.{Secular}
 use Rattle.state.specs.declared.parts.Mean.{Mean}
+use Rattle.state.specs.declared.parts.Long.{Long}
+use Rattle.state.specs.declared.parts.Anomaly.{Anomaly}
+use Rattle.state.specs.declared.parts.Plane.{Plane}
 use Rattle.state.specs.declared.parts.Short.{Short}
 use Rattle.state.specs.declared.parts.Ready.{Ready}
 use Rattle.state.specs.declared.parts.Solved.{Solved}
@@ -14,25 +17,32 @@ use Rattle.state.specs.declared.parts.ReadyPair.the-variants as ready
 use Rattle.state.specs.declared.answer.Pair.{Pair}
 use Rattle.state.specs.declared.answer.Pair.the-variants.{Both, Apart}
 use Rattle.state.specs.Secular.{secular, noMotion, outside, angles}
-use Rattle.state.specs.Kepler.{kepler}
+use Rattle.state.specs.Kepler.{corrected, unsettled, kepler}
 use Rattle.state.specs.Periodics.{longPeriod, latus, negativeLatus, shortPeriod, decayed}
 use Rattle.state.specs.Orientation.{state}
 use Rattle.state.specs.Sgp4.{given}
 use Rattle.state.specs.Ahead.{aheadOf, planeFrom}
 use Rattle.state.specs.Kept.{meanFrom, unperturbedFrom}
 
+-- Kepler's equation: the round of number ktr, where one is left to do
+unfoldable pub goneOn : Long → Anomaly → ℕ → Anomaly
+goneOn long anomaly ktr = cond (unsettled anomaly) (corrected long (anomaly .eo1) ktr) anomaly
+
 -- refusal 14 for neither, then orientation, position and velocity
 unfoldable pub placedTwo : Short → ℕ → Short → ℕ → Pair
 placedTwo s k u n = cond (decayed s || decayed u) Apart (Both (given (state s) k) (given (state u) n))
+
+unfoldable pub planeSolved : Solved → Plane
+planeSolved a = planeFrom (a .q) (a .e) (a .am) (a .l) (a .a)
 
 -- refusal 13 for neither, then the short-period terms
 unfoldable pub shortenedTwo : Solved → Solved → Pair
 shortenedTwo a b =
     cond (negativeLatus (a .l) || negativeLatus (b .l)) Apart
     (placedTwo
-    (shortPeriod (a .p) (a .a .nm) (a .k) (planeFrom (a .q) (a .e) (a .am) (a .l) (a .a)))
+    (shortPeriod (a .p) (a .a .nm) (a .k) (planeSolved a))
     (a .e .rounds)
-    (shortPeriod (b .p) (b .a .nm) (b .k) (planeFrom (b .q) (b .e) (b .am) (b .l) (b .a)))
+    (shortPeriod (b .p) (b .a .nm) (b .k) (planeSolved b))
     (b .e .rounds))
 
 -- Kepler's equation, solved

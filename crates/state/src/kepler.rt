@@ -7,6 +7,8 @@ use crate::parts::Long;
 use elementary::abs;
 use elementary::sin_cos;
 
+pub mod pairs;
+
 // A correction, held within 0.95.
 fn held(tem5: f64) -> f64
     ensures { λ r. ⌜ r ≡ P.held tem5 ⌝ }

@@ -91,6 +91,15 @@ pub struct Solved {
     pub a: Ahead,
 }
 
+// Position and velocity in the orbit's plane, but for the angle of sinu and cosu.
+pub struct InPlane {
+    pub rl: f64,
+    pub rdotl: f64,
+    pub rvdotl: f64,
+    pub sinu: f64,
+    pub cosu: f64,
+}
+
 // Position and velocity in the orbit's plane.
 pub struct Plane {
     pub rl: f64,
@@ -102,6 +111,12 @@ pub struct Plane {
     pub cos2u: f64,
     pub temp1: f64,
     pub temp2: f64,
+}
+
+// The same of two times.
+pub struct Planes {
+    pub first: Plane,
+    pub second: Plane,
 }
 
 // With the short-period terms.

@@ -4,6 +4,7 @@ ghost use Rattle.state.specs.Ahead as W;
 ghost use Rattle.state.specs.Periodics as P;
 use crate::parts::Ahead;
 use crate::parts::Anomaly;
+use crate::parts::InPlane;
 use crate::parts::Latus;
 use crate::parts::Long;
 use crate::parts::Perturbed;
@@ -62,27 +63,39 @@ pub fn negative_latus(l: Latus) -> bool
     l.pl < 0.0
 }
 
-pub fn plane(q: Long, e: Anomaly, am: f64, l: Latus, a: Ahead) -> Plane
-    ensures { λ r. ⌜ r ≡ W.planeFrom q e am l a ⌝ }
+// Up to the arctangent.
+pub fn in_plane(q: Long, e: Anomaly, am: f64, a: Ahead) -> InPlane
+    ensures { λ r. ⌜ r ≡ W.inPlane q e am a ⌝ }
 {
     let ecose = q.axnl * e.coseo1 + q.aynl * e.sineo1;
     let esine = q.axnl * e.sineo1 - q.aynl * e.coseo1;
     let rl = am * (1.0 - ecose);
     let rdotl = a.root * esine / rl;
     let rvdotl = a.rootpl / rl;
-    let betal = a.betal;
-    let temp = esine / (1.0 + betal);
+    let temp = esine / (1.0 + a.betal);
     let sinu = am / rl * (e.sineo1 - q.aynl - q.axnl * temp);
     let cosu = am / rl * (e.coseo1 - q.axnl + q.aynl * temp);
-    let su = atan2(sinu, cosu);
-    let sin2u = (cosu + cosu) * sinu;
-    let cos2u = 1.0 - 2.0 * sinu * sinu;
-    let temp = 1.0 / l.pl;
-    let temp1 = 0.5 * J2 * temp;
-    Plane {
+    InPlane {
         rl,
         rdotl,
         rvdotl,
+        sinu,
+        cosu,
+    }
+}
+
+// From the arctangent on.
+pub fn plane_of(i: InPlane, su: f64, l: Latus, betal: f64) -> Plane
+    ensures { λ r. ⌜ r ≡ W.planeOf i su l betal ⌝ }
+{
+    let sin2u = (i.cosu + i.cosu) * i.sinu;
+    let cos2u = 1.0 - 2.0 * i.sinu * i.sinu;
+    let temp = 1.0 / l.pl;
+    let temp1 = 0.5 * J2 * temp;
+    Plane {
+        rl: i.rl,
+        rdotl: i.rdotl,
+        rvdotl: i.rvdotl,
         betal,
         su,
         sin2u,
@@ -90,6 +103,14 @@ pub fn plane(q: Long, e: Anomaly, am: f64, l: Latus, a: Ahead) -> Plane
         temp1,
         temp2: temp1 * temp,
     }
+}
+
+pub fn plane(q: Long, e: Anomaly, am: f64, l: Latus, a: Ahead) -> Plane
+    ensures { λ r. ⌜ r ≡ W.planeFrom q e am l a ⌝ }
+{
+    let i = in_plane(q, e, am, a);
+    let su = atan2(i.sinu, i.cosu);
+    plane_of(i, su, l, a.betal)
 }
 
 pub fn short_period(p: Perturbed, nm: f64, k: Terms, l: Plane) -> Short

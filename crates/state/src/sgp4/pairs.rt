@@ -4,9 +4,10 @@
 ghost use mathlib.Core.Path.{_≡_};
 ghost use Rattle.state.specs.Two as W;
 use crate::answer::Pair;
-use crate::kepler::kepler;
+use crate::kepler::pairs::kepler_two;
 use crate::orientation::state;
 use crate::parts::Mean;
+use crate::parts::Planes;
 use crate::parts::Ready;
 use crate::parts::ReadyPair;
 use crate::parts::Secular;
@@ -14,10 +15,11 @@ use crate::parts::Short;
 use crate::parts::Solved;
 use crate::periodics::ahead;
 use crate::periodics::decayed;
+use crate::periodics::in_plane;
 use crate::periodics::latus;
 use crate::periodics::long_period;
 use crate::periodics::negative_latus;
-use crate::periodics::plane;
+use crate::periodics::plane_of;
 use crate::periodics::short_period;
 use crate::secular::angles;
 use crate::secular::mean;
@@ -26,6 +28,7 @@ use crate::secular::outside;
 use crate::secular::secular;
 use crate::sgp4::given;
 use crate::sgp4::unperturbed;
+use elementary::atan2_two;
 use instant::Minutes;
 use satellite::NearEarth;
 
@@ -40,29 +43,44 @@ fn placed_two(s: Short, k: u8, u: Short, n: u8) -> Pair
     Pair::Both(given(a, k), given(b, n))
 }
 
+// Both in their planes.
+fn planes(a: Solved, b: Solved) -> Planes
+    ensures { λ r. ⌜ (r .first ≡ W.planeSolved a) × (r .second ≡ W.planeSolved b) ⌝ }
+{
+    let q = a.q;
+    let e = a.e;
+    let l = a.l;
+    let ahead = a.a;
+    let q2 = b.q;
+    let e2 = b.e;
+    let l2 = b.l;
+    let ahead2 = b.a;
+    let i = in_plane(q, e, a.am, ahead);
+    let i2 = in_plane(q2, e2, b.am, ahead2);
+    let su = atan2_two(i.sinu, i.cosu, i2.sinu, i2.cosu);
+    let first = plane_of(i, su.first, l, ahead.betal);
+    let second = plane_of(i2, su.second, l2, ahead2.betal);
+    Planes { first, second }
+}
+
 fn shortened_two(a: Solved, b: Solved) -> Pair
     ensures { λ r. ⌜ r ≡ W.shortenedTwo a b ⌝ }
 {
     let p = a.p;
     let k = a.k;
-    let q = a.q;
-    let e = a.e;
     let l = a.l;
-    let ahead = a.a;
     let p2 = b.p;
     let k2 = b.k;
-    let q2 = b.q;
-    let e2 = b.e;
     let l2 = b.l;
-    let ahead2 = b.a;
     if negative_latus(l) | negative_latus(l2) {
         return Pair::Apart;
     }
-    let c = plane(q, e, a.am, l, ahead);
-    let d = plane(q2, e2, b.am, l2, ahead2);
-    let s = short_period(p, ahead.nm, k, c);
-    let u = short_period(p2, ahead2.nm, k2, d);
-    placed_two(s, e.rounds, u, e2.rounds)
+    let both = planes(a, b);
+    let c = both.first;
+    let d = both.second;
+    let s = short_period(p, a.a.nm, k, c);
+    let u = short_period(p2, b.a.nm, k2, d);
+    placed_two(s, a.e.rounds, u, b.e.rounds)
 }
 
 // From the long-period terms on.
@@ -81,8 +99,9 @@ fn periodics_two(a: Ready, b: Ready) -> Pair
     let l2 = latus(q2, am2);
     let first = ahead(am, l);
     let second = ahead(am2, l2);
-    let e = kepler(q);
-    let e2 = kepler(q2);
+    let solved = kepler_two(q, q2);
+    let e = solved.first;
+    let e2 = solved.second;
     let first = Solved {
         p,
         am,

@@ -5,13 +5,14 @@ use Rattle.state.proofs.sgp4.pairs.periodics_two.Tie as tie
 returns : tie.Need-returns
 unfolding periodicsTwo solvedOf
 returns c =
-    let a = c .before .before .before in
+    let k = c .before .before .before in
+    let a = k .before in
     let l = a .before .before in
     let q = l .before .before in
     simp (
       c .shortened-two .ensures,
-      c .before .kepler2 .ensures,
-      c .before .before .kepler .ensures,
+      k .kepler-two .ensures .0,
+      k .kepler-two .ensures .1,
       a .ahead2 .ensures,
       a .before .ahead .ensures,
       l .latus2 .ensures,
@@ -24,7 +25,6 @@ pub periodics-two-spec : {M : Type 1} → statement M
 periodics-two-spec =
     tie.close
     (tie.spec
-    (λ c κs. tt)
     (λ c κs. tt)
     (λ c κs. tt)
     (λ c κs. tt)

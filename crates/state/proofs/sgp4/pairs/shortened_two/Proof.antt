@@ -10,13 +10,14 @@ returns-2 : tie.Need-returns-2
 unfolding shortenedTwo
 returns-2 c =
     let s = c .before .before in
-    let f = s .before .before .before in
+    let planes = s .before .before .before in
+    let f = planes .before in
     simp (
       c .placed-two .ensures,
       c .before .short-period2 .ensures,
       s .short-period .ensures,
-      s .before .plane2 .ensures,
-      s .before .before .plane .ensures,
+      planes .planes .ensures .0,
+      planes .planes .ensures .1,
       ← f .before .negative-latus2 .ensures,
       ← f .before .before .negative-latus .ensures,
       f .if1 .left,
@@ -29,7 +30,6 @@ shortened-two-spec =
     (λ c κs. tt)
     (λ c κs. tt)
     returns
-    (λ c κs. tt)
     (λ c κs. tt)
     (λ c κs. tt)
     (λ c κs. tt)
