@@ -25,5 +25,17 @@ pub look-spec : {M : Type 1} → statement M
 look-spec =
     tie.close
     (tie.spec
-    returns (λ c κs. search needs) firsts-fit (λ c. search needs) (λ c. search needs) (λ c. search needs) lasts-fit (λ c. search needs)
-    (λ c. search needs) (λ c. search needs) (λ c κs. search needs) (λ c. search needs) (λ c. search needs) returns-2)
+    returns
+    (λ c κs. (omega arith, omega arith))
+    firsts-fit
+    (λ c. omega arith)
+    (λ c. omega arith)
+    (λ c. omega arith)
+    lasts-fit
+    (λ c. omega arith)
+    (λ c. omega arith)
+    (λ c. omega arith)
+    (λ c κs. tt)
+    (λ c. search needs)
+    (λ c. search needs)
+    returns-2)
