@@ -4,7 +4,7 @@
 ghost use mathlib.Core.Path.{_≡_};
 ghost use mathlib.Core.Bool.{true};
 ghost use Rattle.text.specs.Output.{Put};
-ghost use Rattle.explain_input.specs.Told.{toldText, countedWith};
+ghost use Rattle.explain.specs.Told.{toldText, countedWith};
 use explanation::is_well;
 use explanation::put_explanation;
 use explanation::put_progress;
@@ -19,7 +19,7 @@ use pair_steps::What;
 use pair_steps::more;
 
 // The pairs and those that are well so far.
-pub struct Tally {
+pub(crate) struct Tally {
     pub pairs: u64,
     pub well: u64,
 }
@@ -122,7 +122,7 @@ fn print_summary(failed: &mut bool, lines: u64, t: Tally)
 
 // A proved loop has to end, and nothing says that the input does. So it counts its turns down, from a
 // number that no run uses up.
-pub fn explain_text(failed: &mut bool)
+pub(crate) fn explain_text(failed: &mut bool)
     ensures { λ _. ⌜ (now (failed .entry) ≡ true → now (failed .exit) ≡ true) ⌝ }
 {
     let mut buffer = io::buffer();

@@ -1,8 +1,8 @@
 use borrow.Author.Needs.{needs}
 use Rattle.text.proofs.Pieces.{both}
-use Rattle.explain_input.specs.Told.{toldText}
-use Rattle.explain_input.proofs.put_told.Statement.{statement}
-use Rattle.explain_input.proofs.put_told.Tie as tie
+use Rattle.explain.specs.Told.{toldText}
+use Rattle.explain.proofs.input.put_told.Statement.{statement}
+use Rattle.explain.proofs.input.put_told.Tie as tie
 
 returns : tie.Need-returns
 unfolding toldText

@@ -1,7 +1,7 @@
 use borrow.Author.Needs.{needs}
-use Rattle.explain_input.specs.Told.{countedWith}
-use Rattle.explain_input.proofs.counted.Statement.{statement}
-use Rattle.explain_input.proofs.counted.Tie as tie
+use Rattle.explain.specs.Told.{countedWith}
+use Rattle.explain.proofs.input.counted.Statement.{statement}
+use Rattle.explain.proofs.input.counted.Tie as tie
 
 returns : tie.Need-returns
 unfolding countedWith

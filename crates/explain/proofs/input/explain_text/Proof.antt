@@ -2,8 +2,8 @@ use mathlib.Core.Path.{_≡_}
 use mathlib.Core.Bool.{true}
 use lib.ListN.{length}
 use borrow.Author.Needs.{needs}
-use Rattle.explain_input.proofs.explain_text.Statement.{statement}
-use Rattle.explain_input.proofs.explain_text.Tie as tie
+use Rattle.explain.proofs.input.explain_text.Statement.{statement}
+use Rattle.explain.proofs.input.explain_text.Tie as tie
 
 abbrev Inv-loop : tie.InvT-loop
 Inv-loop failed₀ buffer₀ line1₀ line₀ out₀ input₀ pairs₀ t₀ turns₀ failed buffer line1 line out input pairs t turns =

@@ -6,7 +6,7 @@ use Rattle.pair_lines.specs.Said.{headingText}
 use Rattle.pair_steps.specs.Fate.{more}
 use Rattle.tle.specs.Read.{readOf}
 use Rattle.explanation.specs.Explained.{readingText}
-use Rattle.explain_input.specs.declared.Tally.{Tally}
+use Rattle.explain.specs.declared.input.Tally.{Tally}
 
 -- the numbers of its lines, and the explanation
 unfoldable pub toldText : ℕ → ℕ → List ℕ → List ℕ → List ℕ
