@@ -1,11 +1,13 @@
 // Keeps a roster in a file: lodges the pairs of a text from standard input, withdraws a number, or lists
 // the pairs by age. The file is replaced whole before anything is told of it, under a lock, so that nothing
 // that is told is lost, whatever stops the program and however many run at once.
+mod input; // the pairs of a text lodged
+
 use files::read_file;
+use input::lodge_text;
+use input::print_text;
 use kept_roster::put_kept;
 use roster_file::withdraw_in;
-use roster_input::lodge_text;
-use roster_input::print_text;
 use roster_words::Command;
 use roster_words::command_of;
 use roster_words::put_withdrawal;

@@ -3,7 +3,7 @@
 ghost use mathlib.Core.Path.{_≡_};
 ghost use mathlib.Core.Bool.{true};
 ghost use Rattle.text.specs.Output.{Put};
-ghost use Rattle.roster_input.specs.Told.{toldText, isLodged, countedWith};
+ghost use Rattle.keep_roster.specs.Told.{toldText, isLodged, countedWith};
 use line_input::Input;
 use line_input::whole_in;
 use pair_input::next_step;
@@ -17,7 +17,7 @@ use roster_file::lodge_in;
 use roster_words::put_lodging;
 use roster_words::put_total;
 
-pub struct Tally {
+pub(crate) struct Tally {
     pub pairs: u64,
     pub lodged: u64,
 }
@@ -65,7 +65,7 @@ fn put_told(
 }
 
 // The first bytes of a room.
-pub fn print_text(failed: &mut bool, out: &[u8], n: usize)
+pub(crate) fn print_text(failed: &mut bool, out: &[u8], n: usize)
     ensures { λ _. ⌜ (now (failed .entry) ≡ true → now (failed .exit) ≡ true) ⌝ }
 {
     if n <= out.len() {
@@ -138,7 +138,7 @@ fn print_total(failed: &mut bool, lines: u64, t: Tally)
 
 // A proved loop has to end, and nothing says that the input does. So it counts its turns down, from a
 // number that no run uses up.
-pub fn lodge_text(failed: &mut bool, name: &[u8])
+pub(crate) fn lodge_text(failed: &mut bool, name: &[u8])
     ensures { λ _. ⌜ (now (failed .entry) ≡ true → now (failed .exit) ≡ true) ⌝ }
 {
     let mut buffer = io::buffer();

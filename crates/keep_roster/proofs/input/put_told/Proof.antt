@@ -1,8 +1,8 @@
 use borrow.Author.Needs.{needs}
 use Rattle.text.proofs.Pieces.{both}
-use Rattle.roster_input.specs.Told.{toldText}
-use Rattle.roster_input.proofs.put_told.Statement.{statement}
-use Rattle.roster_input.proofs.put_told.Tie as tie
+use Rattle.keep_roster.specs.Told.{toldText}
+use Rattle.keep_roster.proofs.input.put_told.Statement.{statement}
+use Rattle.keep_roster.proofs.input.put_told.Tie as tie
 
 returns : tie.Need-returns
 unfolding toldText

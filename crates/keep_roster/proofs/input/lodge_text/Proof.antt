@@ -2,8 +2,8 @@ use mathlib.Core.Path.{_≡_}
 use mathlib.Core.Bool.{true}
 use lib.ListN.{length}
 use borrow.Author.Needs.{needs}
-use Rattle.roster_input.proofs.lodge_text.Statement.{statement}
-use Rattle.roster_input.proofs.lodge_text.Tie as tie
+use Rattle.keep_roster.proofs.input.lodge_text.Statement.{statement}
+use Rattle.keep_roster.proofs.input.lodge_text.Tie as tie
 
 abbrev Inv-loop : tie.InvT-loop
 Inv-loop failed₀ name buffer₀ line1₀ line₀ out₀ input₀ pairs₀ t₀ turns₀ failed buffer line1 line out input pairs t turns =

@@ -1,6 +1,6 @@
 use borrow.Author.Needs.{needs}
-use Rattle.roster_input.proofs.take_pair.Statement.{statement}
-use Rattle.roster_input.proofs.take_pair.Tie as tie
+use Rattle.keep_roster.proofs.input.take_pair.Statement.{statement}
+use Rattle.keep_roster.proofs.input.take_pair.Tie as tie
 
 returns : tie.Need-returns
 returns c =

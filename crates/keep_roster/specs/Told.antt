@@ -7,7 +7,7 @@ use Rattle.pair_steps.specs.Fate.{more}
 use Rattle.roster_calls.specs.declared.Lodging.{Lodging}
 use Rattle.roster_calls.specs.declared.Lodging.the-variants as lodging
 use Rattle.roster_words.specs.Answers.{lodgingText}
-use Rattle.roster_input.specs.declared.Tally.{Tally}
+use Rattle.keep_roster.specs.declared.input.Tally.{Tally}
 
 -- the numbers of its lines, and the answer
 unfoldable pub toldText : ℕ → ℕ → Lodging → List ℕ → List ℕ → List ℕ

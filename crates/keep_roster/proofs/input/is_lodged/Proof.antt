@@ -1,8 +1,8 @@
 use mathlib.Core.Path.{sym, ap}
 use borrow.Author.Needs.{needs}
-use Rattle.roster_input.specs.Told.{isLodged}
-use Rattle.roster_input.proofs.is_lodged.Statement.{statement}
-use Rattle.roster_input.proofs.is_lodged.Tie as tie
+use Rattle.keep_roster.specs.Told.{isLodged}
+use Rattle.keep_roster.proofs.input.is_lodged.Statement.{statement}
+use Rattle.keep_roster.proofs.input.is_lodged.Tie as tie
 
 returns : tie.Need-returns
 unfolding isLodged

@@ -1,7 +1,7 @@
 use borrow.Author.Needs.{needs}
-use Rattle.roster_input.specs.Told.{countedWith}
-use Rattle.roster_input.proofs.counted.Statement.{statement}
-use Rattle.roster_input.proofs.counted.Tie as tie
+use Rattle.keep_roster.specs.Told.{countedWith}
+use Rattle.keep_roster.proofs.input.counted.Statement.{statement}
+use Rattle.keep_roster.proofs.input.counted.Tie as tie
 
 returns : tie.Need-returns
 unfolding countedWith
