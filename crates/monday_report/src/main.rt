@@ -1,6 +1,9 @@
 // The Monday report (document 02, wish 4): reads a text of pairs from standard input, in whatever
 // pieces it comes, and prints thirteen lines, or `refused` and the number.
+mod lines; // the report, printed
+
 ghost use Rattle.report.specs.State.{begun, More};
+use lines::print_report;
 use listing::Printed;
 use report::State;
 
@@ -45,7 +48,7 @@ fn main() {
     let mut failed = false;
     let state = read_all(&mut failed);
     let mut out = io::buffer();
-    let printed = report_lines::print_report(state.finish(), &mut out);
+    let printed = print_report(state.finish(), &mut out);
     let Printed::Written(n) = printed else {
         return;
     };

@@ -3,7 +3,7 @@ use Prim.Native.Nat.{ℕ}
 use mathlib.Core.Path.{_≡_}
 use borrow.Author.Tests.{eq-eqb, ne-eqb}
 use Rattle.report.specs.declared.Stamp.{Stamp}
-use Rattle.report_lines.specs.Print.{spanText, dashes, timesText}
+use Rattle.monday_report.specs.Print.{spanText, dashes, timesText}
 
 pub timed : (n : ℕ) (a b : Stamp) → n ≡ 0 → dashes ≡ timesText n a b
 unfolding timesText

@@ -12,8 +12,8 @@ use Rattle.report.specs.declared.Refusals.{Refusals}
 use Rattle.report.specs.declared.Report.{Report}
 use Rattle.report.specs.declared.Report.the-variants.{Counted, TooMany, Odd}
 use Rattle.report.specs.Report.{spanOf}
-use Rattle.report_lines.specs.Print.{refusalsText, kindsText, spanText, dashes, timesText, tallyText, reportText}
-use Rattle.report_lines.specs.Claims.{TextsFit}
+use Rattle.monday_report.specs.Print.{refusalsText, kindsText, spanText, dashes, timesText, tallyText, reportText}
+use Rattle.monday_report.specs.Claims.{TextsFit}
 
 refusals-within : (r : Refusals) → Within (refusalsText r) 186
 unfolding refusalsText

@@ -2,7 +2,7 @@
 use Prim.Native.Nat.{_≤_}
 use lib.ListN.{length}
 use Rattle.report.specs.declared.Report.{Report}
-use Rattle.report_lines.specs.Print.{reportText}
+use Rattle.monday_report.specs.Print.{reportText}
 
 -- a buffer of this size is never too short
 abbrev pub TextsFit : Type 0

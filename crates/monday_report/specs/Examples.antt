@@ -5,7 +5,7 @@ use mathlib.Core.List.{List, [], _∷_, _++_}
 use Rattle.text.specs.Output.{bytes, spell, line}
 use Rattle.report.specs.declared.Report.the-variants.{Counted, TooMany}
 use Rattle.report.specs.State.{noTally}
-use Rattle.report_lines.specs.Print.{refusalsText, kindsText, dashes, timesText, tallyText, reportText}
+use Rattle.monday_report.specs.Print.{refusalsText, kindsText, dashes, timesText, tallyText, reportText}
 
 lines : List (List ℕ) → List ℕ
 lines [] = []

@@ -1,7 +1,7 @@
 // The report, printed: thirteen lines, or `refused` and the number, into a lent buffer.
 ghost use Rattle.text.specs.Output.{Put};
 ghost use Rattle.listing.specs.Listing.{Prints};
-ghost use Rattle.report_lines.specs.Print as P;
+ghost use Rattle.monday_report.specs.Print as P;
 use listing::Printed;
 use listing::put_epoch;
 use report::Refusals;
@@ -74,7 +74,7 @@ fn put_report(out: &mut [u8], at: usize, report: Report) -> usize
 
 // The text at the front of the buffer; nothing where it does not fit. The first run, over a buffer of
 // one byte, measures the text.
-pub fn print_report(report: Report, out: &mut [u8]) -> Printed
+pub(crate) fn print_report(report: Report, out: &mut [u8]) -> Printed
     ensures { λ a. ⌜ Prints (P.reportText report) (now (out .entry)) (now (out .exit)) a ⌝ }
 {
     let mut measure = [0u8; 1];
