@@ -1,5 +1,7 @@
 // The rows of `ephemeris`: a satellite in lent memory is asked for a time or an instant, alone, so that a
 // row tells its own strides, and the row is put as text.
+pub mod rows; // a request's line answered on standard output
+
 ghost use Rattle.ephemeris_answers.specs.Answers.{Rowed, TimeRowed, InstantRowed};
 use ephemeris_text::State;
 use ephemeris_text::put_row;

@@ -1,9 +1,9 @@
-// Standard input's lines, a pair and requests, answered on standard output: the loop of `ephemeris`. As in
-// streams, a failure stays marked.
+// Standard input's lines, a pair and requests, answered on standard output. As in streams, a failure stays
+// marked.
 ghost use mathlib.Core.Path.{_≡_};
 ghost use mathlib.Core.Bool.{true};
-use ephemeris_rows::answer;
-use ephemeris_rows::print_room;
+use ephemeris_answers::rows::answer;
+use ephemeris_answers::rows::print_room;
 use ephemeris_stages::Stage;
 use ephemeris_stages::take_stage;
 use ephemeris_stages::wants_line;
@@ -53,7 +53,7 @@ fn take_line(
 
 // A proved loop has to end, and nothing says that the input does: so it counts its turns down, from a
 // number that no run uses up. The lines are counted by them.
-pub fn run(
+pub(crate) fn run(
     failed: &mut bool,
     numbers: &mut [f64; 83],
     marks: &mut [u32; 6],

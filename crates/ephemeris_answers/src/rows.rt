@@ -4,9 +4,9 @@
 ghost use mathlib.Core.Path.{_≡_};
 ghost use mathlib.Core.Bool.{true};
 ghost use Prim.Native.Nat.{_≤_};
-use ephemeris_answers::Sheet;
-use ephemeris_answers::put_at;
-use ephemeris_answers::put_time;
+use crate::Sheet;
+use crate::put_at;
+use crate::put_time;
 use ephemeris_requests::Ask;
 use ephemeris_requests::Fault;
 use ephemeris_requests::Grid;

@@ -1,6 +1,6 @@
 use borrow.Author.Needs.{needs}
-use Rattle.ephemeris_rows.proofs.answer.Statement.{statement}
-use Rattle.ephemeris_rows.proofs.answer.Tie as tie
+use Rattle.ephemeris_answers.proofs.rows.answer.Statement.{statement}
+use Rattle.ephemeris_answers.proofs.rows.answer.Tie as tie
 
 returns : tie.Need-returns
 returns c = λ h. c .print-room .ensures (c .before .before .before .before .before .rows-of .ensures h)

@@ -3,8 +3,8 @@ use mathlib.Core.Path.{_≡_}
 use mathlib.Core.Bool.{true}
 use native.Mathlib.Omega.{arith}
 use borrow.Author.Needs.{needs}
-use Rattle.ephemeris_input.proofs.run.Statement.{statement}
-use Rattle.ephemeris_input.proofs.run.Tie as tie
+use Rattle.ephemeris.proofs.input.run.Statement.{statement}
+use Rattle.ephemeris.proofs.input.run.Tie as tie
 
 abbrev Inv-loop : tie.InvT-loop
 Inv-loop failed₀ numbers₀ marks₀ first₀ buffer₀ line₀ room₀ input₀ stage₀ turns₀ failed numbers marks first buffer line room input stage turns =
