@@ -1,5 +1,7 @@
-// Lines 3 to 6 of `station_windows` from standard input, and the bad ones named on standard error. As in
-// streams, a failure stays marked.
+// The lines of `station_windows` from standard input: the pair, opened (module `pair`), and lines 3 to 6, the
+// bad ones named on standard error. As in streams, a failure stays marked.
+pub mod pair;
+
 ghost use mathlib.Core.Path.{_≡_};
 ghost use mathlib.Core.Bool.{true};
 ghost use lib.Dec.{eqb};

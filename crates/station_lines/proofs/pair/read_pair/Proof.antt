@@ -1,6 +1,6 @@
 use borrow.Author.Needs.{needs}
-use Rattle.opening_input.proofs.read_pair.Statement.{statement}
-use Rattle.opening_input.proofs.read_pair.Tie as tie
+use Rattle.station_lines.proofs.pair.read_pair.Statement.{statement}
+use Rattle.station_lines.proofs.pair.read_pair.Tie as tie
 
 returns : tie.Need-returns
 returns c =
