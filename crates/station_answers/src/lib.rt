@@ -1,5 +1,7 @@
 // What `station_windows` answers on standard output: the windows above an Earth-fixed station, or the passes
 // over a geodetic one. As in streams, a failure stays marked.
+pub mod pass_lines; // the passes as lines, and printed
+
 ghost use mathlib.Core.Path.{_≡_};
 ghost use mathlib.Core.Bool.{true};
 ghost use Prim.Native.Nat.{min};

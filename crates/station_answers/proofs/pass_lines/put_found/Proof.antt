@@ -6,10 +6,10 @@ use Rattle.horizon.specs.declared.Look.{Look}
 use Rattle.sightings.specs.Sightings.{lookAt}
 use Rattle.pass_text.specs.Print.{passText}
 use Rattle.text.proofs.Pieces.{same}
-use Rattle.pass_lines.specs.Print.{foundText}
+use Rattle.station_answers.specs.Print.{foundText}
 use borrow.Author.Needs.{needs}
-use Rattle.pass_lines.proofs.put_found.Statement.{statement}
-use Rattle.pass_lines.proofs.put_found.Tie as tie
+use Rattle.station_answers.proofs.pass_lines.put_found.Statement.{statement}
+use Rattle.station_answers.proofs.pass_lines.put_found.Tie as tie
 
 looks : (begun still : Bool) (rise highest set : ℕ) {a b c a′ b′ c′ : Look} → a ≡ a′ → b ≡ b′ → c ≡ c′
     → passText begun rise (a .azimuth .0) highest (b .elevation .0) still set (c .azimuth .0)

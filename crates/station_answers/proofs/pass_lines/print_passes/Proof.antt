@@ -3,8 +3,8 @@ use mathlib.Core.Path.{_≡_}
 use mathlib.Core.Bool.{true}
 use native.Mathlib.Omega.{arith}
 use borrow.Author.Needs.{needs}
-use Rattle.pass_lines.proofs.print_passes.Statement.{statement}
-use Rattle.pass_lines.proofs.print_passes.Tie as tie
+use Rattle.station_answers.proofs.pass_lines.print_passes.Statement.{statement}
+use Rattle.station_answers.proofs.pass_lines.print_passes.Tie as tie
 
 abbrev Inv-loop : tie.InvT-loop
 Inv-loop failed₀ satellite station least start step samples t₀ left₀ count₀ failed t left count = (count ≤ 4294967295) × (failed₀ ≡ true → failed ≡ true)

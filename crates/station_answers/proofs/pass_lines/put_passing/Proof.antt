@@ -1,9 +1,9 @@
 use mathlib.Core.Path.{sym, ap}
 use Rattle.text.proofs.Pieces.{same}
-use Rattle.pass_lines.specs.Print.{passingText}
+use Rattle.station_answers.specs.Print.{passingText}
 use borrow.Author.Needs.{needs}
-use Rattle.pass_lines.proofs.put_passing.Statement.{statement}
-use Rattle.pass_lines.proofs.put_passing.Tie as tie
+use Rattle.station_answers.proofs.pass_lines.put_passing.Statement.{statement}
+use Rattle.station_answers.proofs.pass_lines.put_passing.Tie as tie
 
 returns : tie.Need-returns
 returns c =

@@ -3,7 +3,7 @@
 ghost use mathlib.Core.Path.{_≡_};
 ghost use mathlib.Core.Bool.{true};
 ghost use Rattle.text.specs.Output.{Put};
-ghost use Rattle.pass_lines.specs.Print.{foundText, passingText};
+ghost use Rattle.station_answers.specs.Print.{foundText, passingText};
 use geodetic::Geodetic;
 use geodetic::site_of;
 use instant::Degrees;
