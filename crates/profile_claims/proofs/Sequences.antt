@@ -37,8 +37,8 @@ use Rattle.profile.proofs.Near.{nearModel, near-taken, near-place, near-asked}
 use Rattle.profile.proofs.Same.{same-opening, no-strides}
 use Rattle.answers.specs.Answer.{answer}
 use Rattle.answers.specs.Refusals.{refusalAnswer}
-use Rattle.lent_profile.specs.Opening.{openedAnswer, openedNumbers, openedMarks, openAnswer, openNumbers, openMarks}
-use Rattle.lent_profile.specs.Requests.{deepHeld, requestNumber, Requested, listNumber, Listed}
+use Rattle.saddlekerf_profile.specs.Opening.{openedAnswer, openedNumbers, openedMarks, openAnswer, openNumbers, openMarks}
+use Rattle.saddlekerf_profile.specs.Requests.{deepHeld, requestNumber, Requested, listNumber, Listed}
 use Rattle.profile_claims.specs.Sequences.{Memory, openedIn, Call, One, Many, Does, Calls, Tells, Told, Sequences}
 
 absurd : {B : Type 0} → ⊥ → B

@@ -18,8 +18,8 @@ use Rattle.requests.specs.Lists.{listRefusal, listTimes, refusalsOf, statesOf, 
 use Rattle.lent_requests.specs.Requests.{rowPut}
 use Rattle.profile.specs.Request.{beyond, answered}
 use Rattle.answers.specs.Answer.{answer}
-use Rattle.lent_profile.specs.Opening.{openAnswer, openNumbers, openMarks}
-use Rattle.lent_profile.specs.Requests.{RequestPost, ListPost}
+use Rattle.saddlekerf_profile.specs.Opening.{openAnswer, openNumbers, openMarks}
+use Rattle.saddlekerf_profile.specs.Requests.{RequestPost, ListPost}
 
 -- the memory of a satellite
 pub record Memory : Type 0 where

@@ -1,14 +1,16 @@
-// The profile's boundary to C and Rust: the functions of crate lent_profile under their exported names.
+// The profile's boundary to C and Rust: the functions of module `lent` under their exported names.
 // include/saddlekerf_profile.h has the same for C.
+pub mod lent;
+
 ghost use mathlib.Core.Path.{_≡_};
 ghost use lib.ListN.{length};
 ghost use Rattle.tle.specs.Read.{readOf};
-ghost use Rattle.lent_profile.specs.Opening as O;
-ghost use Rattle.lent_profile.specs.Requests as R;
 ghost use Rattle.saddlekerf_profile.specs.Boundary.{boundary};
-use lent_profile::open_held;
-use lent_profile::request_held;
-use lent_profile::request_list_held;
+ghost use Rattle.saddlekerf_profile.specs.Opening as O;
+ghost use Rattle.saddlekerf_profile.specs.Requests as R;
+use lent::open_held;
+use lent::request_held;
+use lent::request_list_held;
 
 // The number of this boundary, which stands in the name too: a header of another boundary refers to
 // another name and does not link.

@@ -1,7 +1,7 @@
-use Rattle.lent_profile.proofs.Posts.{not-saved, saved}
+use Rattle.saddlekerf_profile.proofs.Posts.{not-saved, saved}
 use borrow.Author.Needs.{needs}
-use Rattle.lent_profile.proofs.put_list.Statement.{statement}
-use Rattle.lent_profile.proofs.put_list.Tie as tie
+use Rattle.saddlekerf_profile.proofs.lent.put_list.Statement.{statement}
+use Rattle.saddlekerf_profile.proofs.lent.put_list.Tie as tie
 
 returns : tie.Need-returns
 returns c =

@@ -3,9 +3,9 @@ use lib.ListN.{length}
 use mathlib.Core.Path.{sym, ap, _∙_}
 use borrow.Author.Needs.{needs}
 use Rattle.answers.specs.Answer.{answer}
-use Rattle.lent_profile.specs.Opening.{openedAnswer, openedNumbers, openedMarks}
-use Rattle.lent_profile.proofs.open_record.Statement.{statement}
-use Rattle.lent_profile.proofs.open_record.Tie as tie
+use Rattle.saddlekerf_profile.specs.Opening.{openedAnswer, openedNumbers, openedMarks}
+use Rattle.saddlekerf_profile.proofs.lent.open_record.Statement.{statement}
+use Rattle.saddlekerf_profile.proofs.lent.open_record.Tie as tie
 
 returns : tie.Need-returns
 unfolding openedAnswer openedNumbers openedMarks

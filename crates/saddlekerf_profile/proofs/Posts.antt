@@ -30,9 +30,9 @@ use Rattle.profile.specs.Rows.{nearRow, nearRows}
 use Rattle.profile.proofs.Near.{nearModel, near-row, near-place, near-asked, settled-twice}
 use Rattle.profile.proofs.Same.{no-strides}
 use Rattle.answers.specs.Answer.{answer}
-use Rattle.lent_profile.specs.Requests as R
-use Rattle.lent_profile.specs.Requests.{deepHeld, requestNumber, keptNumbers, keptMarks, Requested, RequestPost, listNumber, savedNumbers, savedMarks, ListPost, settledNumbers, settledMarks, nearKeptNumbers, nearKeptMarks, NearAsked, nearSavedNumbers, nearSavedMarks, shortList}
-use Rattle.lent_profile.proofs.Holds.{Near, near-satellite, held-short, held-kind, epochIn}
+use Rattle.saddlekerf_profile.specs.Requests as R
+use Rattle.saddlekerf_profile.specs.Requests.{deepHeld, requestNumber, keptNumbers, keptMarks, Requested, RequestPost, listNumber, savedNumbers, savedMarks, ListPost, settledNumbers, settledMarks, nearKeptNumbers, nearKeptMarks, NearAsked, nearSavedNumbers, nearSavedMarks, shortList}
+use Rattle.saddlekerf_profile.proofs.Holds.{Near, near-satellite, held-short, held-kind, epochIn}
 
 -- ── the near-Earth satellite's own calls ──
 

@@ -18,7 +18,7 @@ use Rattle.storage.specs.Storage.{satelliteOf, modelAt, methodAt, nearEarthAt, 
 use Rattle.storage.specs.Near.{nearShort, nearKind, nearLoadingOf}
 use Rattle.profile.specs.Request.{beyond, beyondBy}
 use Rattle.profile.proofs.Near.{nearModel, near-taken, deep-beyond}
-use Rattle.lent_profile.specs.Requests.{deepHeld}
+use Rattle.saddlekerf_profile.specs.Requests.{deepHeld}
 
 absurd : {A : Type 0} → ⊥ → A
 absurd = elim [ ]

@@ -1,8 +1,8 @@
 use native.Mathlib.Omega.{arith}
 use borrow.Author.Needs.{needs}
 use Rattle.answers.specs.Answer.{answer}
-use Rattle.lent_profile.proofs.opening_answer.Statement.{statement}
-use Rattle.lent_profile.proofs.opening_answer.Tie as tie
+use Rattle.saddlekerf_profile.proofs.lent.opening_answer.Statement.{statement}
+use Rattle.saddlekerf_profile.proofs.lent.opening_answer.Tie as tie
 
 pub opening-answer-spec : {M : Type 1} → statement M
 unfolding answer

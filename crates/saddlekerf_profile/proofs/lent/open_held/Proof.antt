@@ -7,9 +7,9 @@ use borrow.Author.Needs.{needs}
 use Rattle.answers.specs.Refusals.{refusalAnswer}
 use Rattle.answers.proofs.Columns.{read-in-bits}
 use Rattle.profile.proofs.Narrow.{read-opens}
-use Rattle.lent_profile.specs.Opening.{openedAnswer, openedNumbers, openedMarks, openAnswer, openNumbers, openMarks}
-use Rattle.lent_profile.proofs.open_held.Statement.{statement}
-use Rattle.lent_profile.proofs.open_held.Tie as tie
+use Rattle.saddlekerf_profile.specs.Opening.{openedAnswer, openedNumbers, openedMarks, openAnswer, openNumbers, openMarks}
+use Rattle.saddlekerf_profile.proofs.lent.open_held.Statement.{statement}
+use Rattle.saddlekerf_profile.proofs.lent.open_held.Tie as tie
 
 returns : tie.Need-returns
 unfolding openAnswer openNumbers openMarks

@@ -1,9 +1,9 @@
 use lib.Ieee.{round, units, odd, size, span, climb, ofBits, neg}
 use lib.Count.{trailingZeros}
-use Rattle.lent_profile.proofs.Settled.{some-strides, no-strides}
+use Rattle.saddlekerf_profile.proofs.Settled.{some-strides, no-strides}
 use borrow.Author.Needs.{needs}
-use Rattle.lent_profile.proofs.settle.Statement.{statement}
-use Rattle.lent_profile.proofs.settle.Tie as tie
+use Rattle.saddlekerf_profile.proofs.lent.settle.Statement.{statement}
+use Rattle.saddlekerf_profile.proofs.lent.settle.Tie as tie
 
 returns : tie.Need-returns
 returns c = let s = c .before .before in no-strides _ _ (s .pre .0) (s .pre .1) (c .if1 .taken)

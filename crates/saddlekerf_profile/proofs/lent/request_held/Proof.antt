@@ -3,11 +3,11 @@ use mathlib.Core.Path.{sym, _∙_}
 use native.Mathlib.Omega.{arith}
 use mir.Syntax.{w64}
 use mir.ValLaws.{toZ-ofZ}
-use Rattle.lent_profile.proofs.Holds.{loaded-here, lengths}
-use Rattle.lent_profile.proofs.Posts.{request-near, request-deep, request-short}
+use Rattle.saddlekerf_profile.proofs.Holds.{loaded-here, lengths}
+use Rattle.saddlekerf_profile.proofs.Posts.{request-near, request-deep, request-short}
 use borrow.Author.Needs.{needs}
-use Rattle.lent_profile.proofs.request_held.Statement.{statement}
-use Rattle.lent_profile.proofs.request_held.Tie as tie
+use Rattle.saddlekerf_profile.proofs.lent.request_held.Statement.{statement}
+use Rattle.saddlekerf_profile.proofs.lent.request_held.Tie as tie
 
 ask-requires : tie.Need-ask-requires
 ask-requires c κs =

@@ -1,11 +1,11 @@
 use denote.Ref.{now}
 use mathlib.Core.Path.{sym, _∙_}
 use native.Mathlib.Omega.{arith}
-use Rattle.lent_profile.proofs.Holds.{loaded-here, lengths}
-use Rattle.lent_profile.proofs.Posts.{list-near, list-deep, list-short}
+use Rattle.saddlekerf_profile.proofs.Holds.{loaded-here, lengths}
+use Rattle.saddlekerf_profile.proofs.Posts.{list-near, list-deep, list-short}
 use borrow.Author.Needs.{needs}
-use Rattle.lent_profile.proofs.request_list_held.Statement.{statement}
-use Rattle.lent_profile.proofs.request_list_held.Tie as tie
+use Rattle.saddlekerf_profile.proofs.lent.request_list_held.Statement.{statement}
+use Rattle.saddlekerf_profile.proofs.lent.request_list_held.Tie as tie
 
 put-list-requires : tie.Need-put-list-requires
 put-list-requires c κs =

@@ -1,7 +1,7 @@
-use Rattle.lent_profile.proofs.Posts.{ask-short, ask-full}
+use Rattle.saddlekerf_profile.proofs.Posts.{ask-short, ask-full}
 use borrow.Author.Needs.{needs}
-use Rattle.lent_profile.proofs.ask.Statement.{statement}
-use Rattle.lent_profile.proofs.ask.Tie as tie
+use Rattle.saddlekerf_profile.proofs.lent.ask.Statement.{statement}
+use Rattle.saddlekerf_profile.proofs.lent.ask.Tie as tie
 
 returns : tie.Need-returns
 returns c = ask-short _ _ _ _ (c .before .if1 .taken) _ (c .answer .ensures)

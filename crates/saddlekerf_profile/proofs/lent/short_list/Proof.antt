@@ -3,9 +3,9 @@ use borrow.Author.Tests.{lt-ltb, le-ltb}
 use borrow.Author.Needs.{needs}
 use mathlib.Core.Bool.{Bool, cond}
 use Rattle.answers.specs.Answer.{answer}
-use Rattle.lent_profile.specs.Requests.{shortList}
-use Rattle.lent_profile.proofs.short_list.Statement.{statement}
-use Rattle.lent_profile.proofs.short_list.Tie as tie
+use Rattle.saddlekerf_profile.specs.Requests.{shortList}
+use Rattle.saddlekerf_profile.proofs.lent.short_list.Statement.{statement}
+use Rattle.saddlekerf_profile.proofs.lent.short_list.Tie as tie
 
 returns : tie.Need-returns
 unfolding shortList

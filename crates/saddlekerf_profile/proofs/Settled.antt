@@ -14,7 +14,7 @@ use Rattle.sgp4.specs.Sgp4.{noIntegrator}
 use Rattle.requests.specs.Lists.{over}
 use Rattle.storage.specs.Storage.{placeAt, placeNumbers, placeMarks}
 use Rattle.profile.specs.Request.{settled}
-use Rattle.lent_profile.specs.Requests.{settledNumbers, settledMarks}
+use Rattle.saddlekerf_profile.specs.Requests.{settledNumbers, settledMarks}
 
 absurd : {A : Type 0} → ⊥ → A
 absurd = elim [ ]

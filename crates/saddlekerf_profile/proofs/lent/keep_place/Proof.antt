@@ -1,7 +1,7 @@
-use Rattle.lent_profile.proofs.Posts.{kept-33, kept-place}
+use Rattle.saddlekerf_profile.proofs.Posts.{kept-33, kept-place}
 use borrow.Author.Needs.{needs}
-use Rattle.lent_profile.proofs.keep_place.Statement.{statement}
-use Rattle.lent_profile.proofs.keep_place.Tie as tie
+use Rattle.saddlekerf_profile.proofs.lent.keep_place.Statement.{statement}
+use Rattle.saddlekerf_profile.proofs.lent.keep_place.Tie as tie
 
 returns : tie.Need-returns
 returns c = kept-33 _ _ _ (c .if1 .taken)
