@@ -1,5 +1,7 @@
 // The one number that every function for C and Rust answers (include/saddlekerf.h tells its bits), and a
 // refusal of reading as that number.
+#![tactic(auto)]
+
 ghost use Rattle.std.specs.Prelude.{◌≡◌};
 ghost use Rattle.tle.specs.Refusals.{line_number};
 ghost use Rattle.answers.specs.Answer.{answer};

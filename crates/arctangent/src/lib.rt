@@ -1,4 +1,6 @@
 // The two-argument arctangent.
+#![tactic(auto)]
+
 ghost use Rattle.std.specs.Prelude.{◌≡◌};
 ghost use Rattle.arctangent.specs.Angle.{halved, series, arctan, quarter, placed, atan2_of};
 

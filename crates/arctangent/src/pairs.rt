@@ -7,7 +7,7 @@ ghost use Rattle.arctangent.specs.Two.{ordinary, tangent, quarter_of};
 use crate::{arctan_series, atan2, halve, place};
 use floats::{HALF_PI, abs, is_finite};
 
-#[derive(Drop)]
+#[derive(Clone, Copy)]
 pub struct Angles {
     pub first: f64,
     pub second: f64,

@@ -6,7 +6,7 @@ use mathlib.Core.List.{List}
 use native.Mathlib.Omega.{arith}
 use lib.Dec.{leb, ltb, eqb}
 use lib.ListN.{length}
-use borrow.Author.Tests.{ltb-true, ltb-false, leb-true, leb-false, eqb-true, eqb-false, eq-eqb, ne_eqb, le-leb, lt-leb, lt-ltb, le-ltb, not_false}
+use borrow.Author.Tests.{ltb-true, ltb-false, leb-true, leb-false, eqb-true, eqb-false, eq-eqb, ne_eqb, le-leb, lt-leb, lt-ltb, le-ltb, not-false}
 use Rattle.instant.specs.Calendar.{in_calendar}
 use Rattle.award.specs.declared.Offer.{Offer}
 use Rattle.award.specs.declared.Answer.{Answer}
@@ -134,7 +134,7 @@ only offers entries total w e =
     record {
       few_offers = ltb-false most n f.0;
       few_entries = ltb-false most m f.1.0;
-      all_sound = λ k h. sound_only _ (not_false _ (none (λ k. unsound (offer_at offers k)) n u.0 k h));
+      all_sound = λ k h. sound_only _ (not-false _ (none (λ k. unsound (offer_at offers k)) n u.0 k h));
       all_exist = λ i h. leb-false n _ (none (λ i. missing n entries i) m v.0 i h);
       none_twice = λ i j h l.
           eqb-false _ _ (none (λ j. names entries (entry_at entries i) j) i (not_among (λ j. names entries (entry_at entries i) j) i (none (λ i. repeated entries i) m r.0 i h)) j l);

@@ -1,5 +1,7 @@
 // The check of an award plan (document 02, wish 11): who wins which slot is proposed by an optimiser
 // that nobody trusts, and accepted only if it breaks no rule.
+#![tactic(auto)]
+
 ghost use Rattle.std.specs.Prelude.{◌≡◌, ◌+◌, ◌*◌, ◌/◌, ◌≤◌, ◌<◌, length};
 ghost use Rattle.instant.specs.Calendar.{in_calendar};
 ghost use Rattle.award.specs.Plan.{first, offer_at, unsound, before, clash, missing, names, repeated, clash_with, clashing, sum_below, bid_at, answer_of};
@@ -8,7 +10,7 @@ use instant::{Dated, Instant, date_of};
 
 // An offer for a slot: the antenna, the instants at which the slot starts and ends, in microseconds
 // from 1957 January 1, and the bid in whole cents.
-#[derive(Drop)]
+#[derive(Clone, Copy)]
 pub struct Offer {
     pub antenna: u64,
     pub start: u64,
@@ -18,7 +20,7 @@ pub struct Offer {
 
 // What checking a plan gives: accepted, or one of document 02's refusals, with the offer (27) or the
 // entry (28 to 30) at fault, counted from 0.
-#[derive(Drop)]
+#[derive(Clone, Copy)]
 pub enum Answer {
     Accepted,
     // 18: more than 256 offers or entries.

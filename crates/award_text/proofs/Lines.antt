@@ -1,7 +1,7 @@
 -- A line's numbers in what is left of the row.
 use Prim.Native.Nat.{ℕ, ◌-◌, ◌≤◌}
 use mathlib.Core.Path.{◌≡◌, sym, ap, ◌∙◌}
-use mathlib.Core.List.{List, ◌++◌, append_nil}
+use mathlib.Core.List.{List, ◌++◌, append-nil}
 use native.Mathlib.Omega.{arith}
 use lib.ListN.{length, take, drop, length-drop}
 use lib.Seq.{sets, drop-length, take_all}
@@ -20,7 +20,7 @@ rest l n = let h : length (drop n l) ≤ length l - n = omega (arith, length-dro
 -- and is put back after what lies before
 back : (l p : List ℕ) (n : ℕ) → n ≤ length l → put_mid n (length l - n) l p ≡ take n l ++ p
 back l p n h =
-    ap (λ z. take n l ++ (p ++ z)) (Post-is n (length l) l h ∙ drop-length l) ∙ ap (λ z. take n l ++ z) (append_nil p)
+    ap (λ z. take n l ++ (p ++ z)) (Post-is n (length l) l h ∙ drop-length l) ∙ ap (λ z. take n l ++ z) (append-nil p)
 
 module _ (d : Draft) (line row part : List ℕ) (label : Label) (q : Numbers) (r : Draft) where
   abbrev at : ℕ

@@ -1,6 +1,8 @@
 // The text of an award plan, line by line: `offer` with its antenna, start, end and bid for each offer,
 // then `entries` with the numbers of the offers named, then `total` and `turnaround` with one number each.
 // One blank stands before each number. All numbers go into one lent row, in the order of the text.
+#![tactic(auto)]
+
 ghost use Rattle.std.specs.Prelude.{◌≡◌, cond, ◌≤◌, length};
 ghost use Rattle.text.specs.Output.{Put};
 ghost use Rattle.award_text.specs.Text.{started, unread, left_out, advanced, in_place, placed, after, label_of, taken, row_taken, judged, verdict_of};
@@ -15,7 +17,7 @@ use text::{put_byte, put_bytes, put_decimal};
 // at `entries`. `stage` is 0 before the line of entries, 1 before the total, 2 before the turnaround, 3
 // after it. `taken` tells whether the last line had its form and its place, `faulty` whether one had not,
 // and `long` whether the row had no room for a line's numbers.
-#[derive(Drop)]
+#[derive(Clone, Copy)]
 pub struct Draft {
     pub at: usize,
     pub offers: usize,
@@ -26,7 +28,7 @@ pub struct Draft {
     pub long: bool,
 }
 
-#[derive(Drop)]
+#[derive(Clone, Copy)]
 pub enum Verdict {
     Judged(Answer),
     // A line was bad, or the text ends before the turnaround.
@@ -37,7 +39,7 @@ pub enum Verdict {
 
 // What a line begins with: 0 `offer`, 1 `entries`, 2 `total`, 3 `turnaround`, 4 anything else; and how
 // many bytes that takes.
-#[derive(Drop)]
+#[derive(Clone, Copy)]
 struct Label {
     kind: u64,
     size: usize,

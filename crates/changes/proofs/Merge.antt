@@ -2,7 +2,7 @@
 use Prim.Native.Nat.{ℕ, ◌+◌, ◌<◌, ◌≤◌}
 use mathlib.Core.Path.{◌≡◌, refl, ap, sym, ◌∙◌}
 use mathlib.Core.Bool.{Bool, true, false}
-use mathlib.Core.List.{List, [], ◌∷◌, ◌++◌, append_nil}
+use mathlib.Core.List.{List, [], ◌∷◌, ◌++◌, append-nil}
 use native.Mathlib.Omega.{arith}
 use borrow.Author.Tests.{lt-ltb, le-ltb, eq-eqb, ne_eqb, ltb-true, ltb-false, eqb-true, eqb-false}
 use lib.Dec.{eqb, ltb}
@@ -64,7 +64,7 @@ coming : (low : ℕ) (ps : List Record) {bs : List Record} → Rising low bs →
 unfolding applied seconds lodged
 coming low ps end u = refl
 coming low ps (next {r = b} {rs = bs} g l q) u =
-    ap (applied (seconds bs)) (lodged_past b ps [] (under_more b.number low ps g u) ∙ sym (append_nil (ps ++ (b ∷ []))))
+    ap (applied (seconds bs)) (lodged_past b ps [] (under_more b.number low ps g u) ∙ sym (append-nil (ps ++ (b ∷ []))))
     ∙ coming (b.number + 1) (ps ++ (b ∷ [])) q (under_snoc (b.number + 1) ps b (under_more (b.number + 1) low ps (omega arith) u) (omega arith))
     ∙ append_snoc ps b bs
 

@@ -1,6 +1,8 @@
 // Checks an award plan (document 02, wish 11): reads its text from standard input and prints `accepted`,
 // or `refused` with the number and the offer or entry at fault. A bad line is named on standard error, and
 // so is a text that ends too soon; then nothing is judged.
+#![tactic(auto)]
+
 use award::Answer;
 use award_text::{Draft, Verdict, finish, put_answer, take_line};
 use line_input::{Input, next_line, whole_in};

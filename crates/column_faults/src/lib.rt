@@ -1,5 +1,7 @@
 // What is wrong with one line of a pair, in a sentence: its length, a column, or its checksum. The line
 // follows, with a mark under the column.
+#![tactic(auto)]
+
 ghost use Rattle.std.specs.Prelude.{◌≡◌, ◌-◌, ◌≤◌, length, get_or};
 ghost use Rattle.text.specs.Output.{Put};
 ghost use Rattle.column_faults.specs.Faults.{allowed_text, choice_text, end_text, size_text, length_text, place_text, column_text};

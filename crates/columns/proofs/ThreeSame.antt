@@ -2,7 +2,7 @@
 use Prim.Native.Nat.{ℕ, ◌+◌, ◌-◌, ◌<◌, ◌≤◌}
 use mathlib.Core.Path.{◌≡◌, sym, ◌∙◌}
 use mathlib.Core.List.{List}
-use mathlib.Core.Bool.{Bool, true, ◌&&◌, or_true}
+use mathlib.Core.Bool.{Bool, true, ◌&&◌, or-true}
 use native.Mathlib.Omega.{arith}
 use lib.Dec.{eqb}
 use lib.ListN.{length, get_or}
@@ -17,7 +17,7 @@ itself_fits : (c : ℕ) (a : Bool) (b : ℕ) → itself c b ≡ true → fits c 
 itself_fits c a b e = rw e
 
 opens_fits : (c : ℕ) (a : Bool) (b : ℕ) → (eqb c 78 && opens_number b) ≡ true → fits c a b ≡ true
-opens_fits c a b e = rw e (or_true (fits_plain c a b))
+opens_fits c a b e = rw e (or-true (fits_plain c a b))
 
 module _ (cs bs : List ℕ) (same : length cs ≡ length bs) (long : 3 ≤ length bs) where
   pub plain_more : (keeps fit : Bool) (i : ℕ) → fit ≡ fits_plain (get_or cs i 0) (eqb (get_or bs (i - 1) 0) 32) (get_or bs i 0) → i < length bs

@@ -3,7 +3,7 @@ use Prim.Native.Nat.{ℕ, ◌+◌, ◌-◌, ◌*◌, ◌<◌, ◌≤◌}
 use mathlib.Core.Path.{◌≡◌, refl, ap, sym, ◌∙◌, subst}
 use borrow.Author.Tests.{lt-ltb, le-ltb, eq-eqb, ne_eqb, eqb-true}
 use mathlib.Core.Bool.{Bool, true, false, cond}
-use mathlib.Core.List.{List, [], ◌∷◌, ◌++◌, append_assoc, append_nil}
+use mathlib.Core.List.{List, [], ◌∷◌, ◌++◌, append_assoc, append-nil}
 use native.Mathlib.Omega.{arith}
 use lib.Dec.{eqb, ltb}
 use lib.ListN.{length, take, drop}
@@ -104,7 +104,7 @@ module _ {out : List ℕ} {at : ℕ} (xs bs : List Record) {mid : List ℕ} {now
   pub finish : 128 ≤ k → Put out at (spelled (listed xs bs)) mid now
   finish h =
       let e = none_left (drop i xs) (drop j bs) (omega (arith, G.left)) in
-      same (sym (append_nil G.done) ∙ ap (λ (s : List ℕ). G.done ++ s) (sym e) ∙ G.text) G.put
+      same (sym (append-nil G.done) ∙ ap (λ (s : List ℕ). G.done ++ s) (sym e) ∙ G.text) G.put
 
 -- what comes next of a roster, where a place that was not passed was not read again
 after_by : (t : Bool) (i passed : ℕ) (xs : List Record) (x y : Place) → eqb passed 0 ≡ t → x ≡ front (drop i xs)

@@ -1,4 +1,6 @@
 // What changed between two rosters (document 02, wish 7): text lines by rising catalogue number into a lent room.
+#![tactic(auto)]
+
 
 ghost use Rattle.std.specs.Prelude.{◌≡◌, cond, [], ◌∷◌, ◌++◌, ◌*◌, ◌<◌, eqb, ltb, length, take, drop};
 ghost use Rattle.text.specs.Output.{Put};
@@ -12,14 +14,14 @@ use roster::{all_zero, is_no_roster};
 use text::{put_byte, put_bytes};
 use tle::{Form, Reading, Record, read_form, read_meaning};
 
-#[derive(Drop)]
+#[derive(Clone, Copy)]
 pub enum Which {
     First,
     Second,
 }
 
 // What comparing two rosters answers.
-#[derive(Drop)]
+#[derive(Clone, Copy)]
 pub enum Compared {
     // How many bytes the listing has.
     Written(usize),
@@ -44,14 +46,14 @@ impl Compared {
 }
 
 // What a place of a roster holds.
-#[derive(Drop)]
+#[derive(Clone, Copy)]
 pub enum Place {
     Pair(Record),
     Empty,
 }
 
 // One turn: how far the text reaches, and how many pairs of each roster were passed.
-#[derive(Drop)]
+#[derive(Clone, Copy)]
 pub struct Turn {
     pub next: usize,
     pub first: usize,

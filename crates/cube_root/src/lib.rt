@@ -1,6 +1,8 @@
 // The cube root of a positive normal number, the nearest f64, and the powers 2/3, 3/2 and 7/2 that the
 // model takes. As for the square root, a candidate in floating point, of which nothing is proved but its
 // length, and then an exact check of it in whole numbers that all fit 64 bits.
+#![tactic(auto)]
+
 ghost use Rattle.std.specs.Prelude.{◌≡◌, cond, leb, ltb, ◌+◌, ◌-◌, ◌*◌, ◌/◌, ◌%◌, ◌^◌, ◌≤◌, ◌<◌};
 ghost use Rattle.cube_root.specs.Cube.{cube, near_cube, normal, cbrt_of};
 ghost use Rattle.cube_root.specs.Cut.{cut};
@@ -9,7 +11,7 @@ ghost use Rattle.cube_root.specs.Power.{pow23, pow15, pow35};
 use square_root::sqrt;
 
 // A cube from below and the next one, as `cubes` says.
-#[derive(Drop)]
+#[derive(Clone, Copy)]
 struct Bounds {
     under: u64,
     over: u64,

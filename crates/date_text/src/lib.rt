@@ -1,5 +1,7 @@
 // An instant as text, `2026-11-17 12:00:00.000000`: year, month and day of the month, and the time of day
 // in UTC with microseconds. All instants of the calendar take 26 bytes.
+#![tactic(auto)]
+
 ghost use Rattle.std.specs.Prelude.{◌≡◌};
 ghost use Rattle.text.specs.Output.{Put};
 ghost use Rattle.date_text.specs.Date.{month_length, month_of, day_text, time_text, date_text, instant_text};
@@ -10,7 +12,7 @@ use instant::{Date, Dated, Instant, date_of};
 use text::{put_byte, put_bytes};
 
 // A month and a day of it, both from 1.
-#[derive(Drop)]
+#[derive(Clone, Copy)]
 pub struct MonthDay {
     pub month: u64,
     pub day: u64,

@@ -1,7 +1,7 @@
 -- Places of a number. Assumes nothing.
 use mathlib.Core.Path.{◌≡◌, refl, sym, ap, ◌∙◌}
 use Prim.Native.Nat.{ℕ, zero, suc, ◌+◌, ◌-◌, ◌*◌, ◌/◌, ◌%◌, ◌^◌, ◌≤◌, ◌<◌}
-use native.Mathlib.Nat.{add_zero, add-suc, mul_assoc, mod-lt, zero-lt-suc, pow-suc, pow-zero, mul-one, mul-add-div_right, mul-add-mod_self_right, one-le-pow, pow-le-pow_right}
+use native.Mathlib.Nat.{add-zero, add-suc, mul_assoc, mod-lt, zero-lt-suc, pow-suc, pow-zero, mul-one, mul-add-div_right, mul-add-mod_self_right, one-le-pow, pow-le-pow_right}
 use native.Mathlib.Omega.{arith}
 use mathlib.Core.Bool.{Bool, true, false, cond, ◌&&◌}
 use mathlib.Core.List.{List, [], ◌∷◌, ◌++◌}
@@ -30,7 +30,7 @@ length_places base (suc w) n = simp length-append (omega (arith, length_places b
 -- the last places of more
 last_places : (base j w n : ℕ) → drop j (places base (j + w) n) ≡ places base w n
 unfolding places
-last_places base j zero n = ap (λ (z : ℕ). drop j (places base z n)) (add_zero j) ∙ drop_of_length-le (places base j n) {i = j} (omega (arith, length_places base j n))
+last_places base j zero n = ap (λ (z : ℕ). drop j (places base z n)) (add-zero j) ∙ drop_of_length-le (places base j n) {i = j} (omega (arith, length_places base j n))
 last_places base j (suc w) n =
     ap (λ (z : ℕ). drop j (places base z n)) (add-suc j w)
     ∙ drop-append-le j (places base (j + w) (n / base)) (glyph (n % base) ∷ []) (omega (arith, length_places base (j + w) (n / base)))

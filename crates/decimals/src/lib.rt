@@ -1,6 +1,8 @@
 // An f64 as a decimal with a fixed number of places, correctly rounded: the whole number nearest to its
 // magnitude in units of the last place, a tie to even (specs/Fixed.antt). The f64 is m / 2^(1075 - e)
 // with an m of 53 binary digits; whole part and fraction are taken apart so that all fits 64 bits.
+#![tactic(auto)]
+
 ghost use Rattle.std.specs.Prelude.{◌≡◌, true, ◌&&◌, ◌∷◌, ◌+◌, ◌-◌, ◌*◌, ◌%◌, ◌^◌, ◌≤◌, ◌<◌, min, ltb};
 ghost use Rattle.std.specs.Float.Ieee.{lt};
 ghost use Rattle.floats.specs.Notation.{dec};
@@ -11,7 +13,7 @@ ghost use Rattle.decimals.specs.Parts.{Parts, Units};
 use text::{put_byte, put_bytes, put_decimal};
 
 // The number whole + part / (2^32 * down).
-#[derive(Drop)]
+#[derive(Clone, Copy)]
 struct Split {
     whole: u64,
     part: u64,
@@ -64,7 +66,7 @@ fn nearest_part(part: u64, down: u64, ten: u64) -> u64
 }
 
 // A number of units as its whole part and its places.
-#[derive(Drop)]
+#[derive(Clone, Copy)]
 struct Rounded {
     whole: u64,
     part: u64,

@@ -1,5 +1,7 @@
 // The Earth-fixed frame: a position of the model's frame turned through the sidereal angle, and whether it
 // stands above a station. Polar motion is left out.
+#![tactic(auto)]
+
 ghost use Rattle.std.specs.Prelude.{◌≡◌};
 ghost use Rattle.earth_fixed.specs.Frame as F;
 

@@ -3,6 +3,8 @@
 // numbers are used, one rounding for each operation and nothing fused, so that the results are the
 // same everywhere. Every function takes every f64. Nothing is computed here: each function has a
 // crate of its own, and callers name this one.
+#![tactic(auto)]
+
 pub use arctangent::atan2;
 pub use arctangent::pairs::{Angles, atan2_two};
 pub use cube_root::{cbrt, seven_halves, three_halves, two_thirds};

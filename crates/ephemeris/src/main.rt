@@ -4,6 +4,8 @@
 // time of day in UTC, refusal number, position in km, velocity in km/s, strides. Blanks stand between the
 // cells, or commas where the first line of all is `commas`. A pair that is refused prints `refused` and
 // the number; lines that are no requests are named on standard error.
+#![tactic(auto)]
+
 mod input; // the loop over the lines
 
 use input::run;

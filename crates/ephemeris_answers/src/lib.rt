@@ -1,5 +1,7 @@
 // The rows of `ephemeris`: a satellite in lent memory is asked for a time or an instant, alone, so that a
 // row tells its own strides, and the row is put as text.
+#![tactic(auto)]
+
 pub mod rows; // a request's line answered on standard output
 
 ghost use Rattle.ephemeris_answers.specs.Answers.{Rowed, TimeRowed, InstantRowed};
@@ -9,7 +11,7 @@ use instant::{Elapsed, Instant, Microseconds, Moved, move_by, since};
 use lent_requests::request_held;
 
 // What every row has in common: the separator and the epoch.
-#[derive(Drop)]
+#[derive(Clone, Copy)]
 pub struct Sheet {
     pub sep: u8,
     pub epoch: Instant,

@@ -1,5 +1,7 @@
 // The request lines of `ephemeris`: `one` and `list` with times as `replay` takes them, `grid START STEP
 // COUNT` with START and STEP in seconds of up to six decimals, and `at YEAR DAY MICROSECONDS`.
+#![tactic(auto)]
+
 ghost use Rattle.std.specs.Prelude.{◌≡◌, ◌≤◌, min, length};
 ghost use Rattle.text.specs.Output.{Put};
 ghost use Rattle.request_line.specs.Times.{signed, limit};
@@ -15,7 +17,7 @@ use text::{put_bytes, put_decimal};
 // ---- A grid.
 
 // Times from a start, before the epoch where `minus` is set, so many steps apart: all in microseconds.
-#[derive(Drop)]
+#[derive(Clone, Copy)]
 pub struct Grid {
     pub minus: bool,
     pub start: u64,
@@ -24,7 +26,7 @@ pub struct Grid {
 }
 
 // What is wrong with a line.
-#[derive(Drop)]
+#[derive(Clone, Copy)]
 pub enum Fault {
     Request,
     Grid,
@@ -33,7 +35,7 @@ pub enum Fault {
     Times,
 }
 
-#[derive(Drop)]
+#[derive(Clone, Copy)]
 pub enum Ask {
     // As many times, from the front of the row.
     Times(usize),
@@ -43,7 +45,7 @@ pub enum Ask {
 }
 
 // A decimal behind its sign.
-#[derive(Drop)]
+#[derive(Clone, Copy)]
 struct Signed {
     minus: bool,
     micros: Whole,

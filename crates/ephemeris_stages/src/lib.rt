@@ -1,5 +1,7 @@
 // The lines in front of the requests of `ephemeris`: `commas` or not, and a pair, which is opened into lent
 // memory. What is said of the pair, the header or that it is refused, is put at the front of a lent room.
+#![tactic(auto)]
+
 ghost use Rattle.std.specs.Prelude.{◌≡◌};
 ghost use Rattle.text.specs.Output.{Put};
 ghost use Rattle.storage.specs.Storage.{epoch_at};
@@ -15,7 +17,7 @@ use text::{put_bytes, put_line};
 
 // What the next line is: `commas` or the first of a pair; that first, with the separator; the second,
 // behind a first of so many bytes; a request; or nothing after a refused pair.
-#[derive(Drop)]
+#[derive(Clone, Copy)]
 pub enum Stage {
     Start,
     First(u8),
@@ -25,7 +27,7 @@ pub enum Stage {
 }
 
 // The stage behind a line, and how many bytes are said.
-#[derive(Drop)]
+#[derive(Clone, Copy)]
 pub struct Staged {
     pub stage: Stage,
     pub said: usize,

@@ -1,6 +1,8 @@
 // The lines of `ephemeris`: a header, and for each row its date and time of day, its refusal number,
 // position in km, velocity in km/s and strides. A separator byte, a blank or a comma, stands between two
 // cells.
+#![tactic(auto)]
+
 ghost use Rattle.std.specs.Prelude.{◌≡◌, [], ◌∷◌, ◌++◌};
 ghost use Rattle.text.specs.Output.{Put, decimal};
 ghost use Rattle.decimals.specs.Fixed.{fixed_text};
@@ -12,7 +14,7 @@ use instant::Moved;
 use text::{put_byte, put_bytes, put_decimal};
 
 // A position in km and a velocity in km/s.
-#[derive(Drop)]
+#[derive(Clone, Copy)]
 pub struct State {
     pub x: f64,
     pub y: f64,

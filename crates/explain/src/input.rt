@@ -12,7 +12,7 @@ use pair_lines::{put_heading, put_summary};
 use pair_steps::{Pairs, Step, What, more};
 
 // The pairs and those that are well so far.
-#[derive(Drop)]
+#[derive(Clone, Copy)]
 pub(crate) struct Tally {
     pub pairs: u64,
     pub well: u64,

@@ -2,6 +2,8 @@
 // pair what refuses it, in a sentence with the line and a mark under the column, or its number, epoch,
 // period and kind. Names, blank lines and lines that stand alone are named by their line numbers. Of a long
 // text it tells on standard error how far it is.
+#![tactic(auto)]
+
 mod input; // the pairs, one after the other
 
 use input::explain_text;

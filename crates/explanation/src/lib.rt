@@ -1,4 +1,6 @@
 // A pair explained: what refuses it, in a sentence, or its number, epoch, period and kind.
+#![tactic(auto)]
+
 ghost use Rattle.std.specs.Prelude.{◌≡◌};
 ghost use Rattle.text.specs.Output.{Put};
 ghost use Rattle.tle.specs.Read.{read_of};

@@ -1,6 +1,8 @@
 // Files that a program's arguments name: read into lent space, locked, replaced whole. A failure is told once,
 // in words, on standard error, and marks the flag that the program lends; from then on nothing is read or
 // replaced, and the space stays (crate streams).
+#![tactic(auto)]
+
 ghost use Rattle.std.specs.Prelude.{◌≡◌, true, cond, ◌≤◌, eqb};
 ghost use Rattle.io.specs.Counts.{IsPrefixLen};
 ghost use Rattle.files.specs.Folder.{folder_size};

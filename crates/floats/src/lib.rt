@@ -1,5 +1,7 @@
 // f64: the notation of rounded arithmetic and the values of pi (specs/Notation), on which every
 // specification rests, and two tests of a number's kind and size.
+#![tactic(auto)]
+
 ghost use Rattle.std.specs.Prelude.{◌≡◌};
 ghost use Rattle.floats.specs.Magnitude.{abs_of};
 ghost use Rattle.floats.specs.Notation.{finite};

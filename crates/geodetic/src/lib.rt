@@ -1,15 +1,17 @@
 // A station by latitude, longitude and height above the WGS-84 ellipsoid: its Earth-fixed position, and
 // east, north and up there. Up is the ellipsoid's normal.
+#![tactic(auto)]
+
 ghost use Rattle.std.specs.Prelude.{◌≡◌};
 ghost use Rattle.geodetic.specs.Geodetic as G;
 
 use instant::{Degrees, to_radians};
 
-#[derive(Drop)]
+#[derive(Clone, Copy)]
 pub struct Metres(pub f64);
 
 // Geodetic latitude, longitude to the east, height above the ellipsoid.
-#[derive(Drop)]
+#[derive(Clone, Copy)]
 pub struct Geodetic {
     pub latitude: Degrees,
     pub longitude: Degrees,
@@ -17,7 +19,7 @@ pub struct Geodetic {
 }
 
 // Earth-fixed, the position in km.
-#[derive(Drop)]
+#[derive(Clone, Copy)]
 pub struct Site {
     pub position: [f64; 3],
     pub east: [f64; 3],

@@ -1,5 +1,7 @@
 // A position of the model's frame at an instant, as a station sees it. Above a least elevation is what has
 // a greater sine of its elevation.
+#![tactic(auto)]
+
 ghost use Rattle.std.specs.Prelude.{◌≡◌};
 ghost use Rattle.horizon.specs.Horizon as Z;
 
@@ -53,7 +55,7 @@ pub fn sine(site: Site, t: Instant, p: [f64; 3]) -> f64
 }
 
 // Azimuth from north by east and elevation, and the range in km.
-#[derive(Drop)]
+#[derive(Clone, Copy)]
 pub struct Look {
     pub azimuth: Degrees,
     pub elevation: Degrees,

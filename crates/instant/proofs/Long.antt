@@ -23,6 +23,10 @@ pattern f s n = cond s (top f) 0 + (size n - prec f) * hid f + n / 2 ^ (size n -
 
 same_bits : (f : Format) (x y : Float) (s : Bool) (a c : ℕ) → 0 < c → HasValue x s a c → HasValue y s a c → to_bits f x ≡ to_bits f y
 unfolding to_bits
+same_bits f lib.Ieee.nan y s a c C v w = elim v [ ]
+same_bits f (inf _) y s a c C v w = elim v [ ]
+same_bits f (fin t m e) lib.Ieee.nan s a c C v w = elim w [ ]
+same_bits f (fin t m e) (inf _) s a c C v w = elim w [ ]
 same_bits f (fin t m e) (fin u n d) s a c C v w =
     let L = 2 ^ low f in
     let cross : m * up e * down d ≡ n * up d * down e =

@@ -1,4 +1,6 @@
 // Quantities of time and angle kept apart, converted only by named functions.
+#![tactic(auto)]
+
 ghost use Rattle.std.specs.Prelude.{◌≡◌, ◌+◌, ◌*◌, ◌^◌, ◌≤◌, ◌<◌, pos, nat_abs, false};
 ghost use Rattle.std.specs.Float.{binary64};
 ghost use Rattle.std.specs.Float.Ieee.{round};
@@ -12,27 +14,27 @@ ghost use Rattle.instant.specs.Greenwich.{epoch_days_of, julian_of, sidereal_of,
 use integers::magnitude;
 
 // A signed count of microseconds.
-#[derive(Drop)]
+#[derive(Clone, Copy)]
 pub struct Microseconds(pub i64);
 
 // Microseconds from 1957 January 1, 0h.
-#[derive(Drop)]
+#[derive(Clone, Copy)]
 pub struct Instant(pub u64);
 
-#[derive(Drop)]
+#[derive(Clone, Copy)]
 pub struct Minutes(pub f64);
 
-#[derive(Drop)]
+#[derive(Clone, Copy)]
 pub struct Days(pub f64);
 
 // A number of whole integrator strides of 720 minutes.
-#[derive(Drop)]
+#[derive(Clone, Copy)]
 pub struct Strides(pub u32);
 
-#[derive(Drop)]
+#[derive(Clone, Copy)]
 pub struct Radians(pub f64);
 
-#[derive(Drop)]
+#[derive(Clone, Copy)]
 pub struct Degrees(pub f64);
 
 // How far a time lies from 0.
@@ -53,7 +55,7 @@ fn short_quotient(n: u64, d: u64) -> f64
 }
 
 // n * scale = quotient * d + rest, and scale = 2 ^ bits.
-#[derive(Drop)]
+#[derive(Clone, Copy)]
 struct Division {
     quotient: u64,
     rest: u64,
@@ -202,21 +204,21 @@ pub fn to_radians(x: Degrees) -> Radians
 // ---- The calendar, 1957 January 1 to 2057 January 1.
 
 // What a year and a day of the year denote.
-#[derive(Drop)]
+#[derive(Clone, Copy)]
 pub enum Epoch {
     At(Instant),
     Outside,
 }
 
 // Year, day of the year from 1, microseconds of that day.
-#[derive(Drop)]
+#[derive(Clone, Copy)]
 pub struct Date {
     pub year: u64,
     pub day: u64,
     pub micros: u64,
 }
 
-#[derive(Drop)]
+#[derive(Clone, Copy)]
 pub enum Dated {
     On(Date),
     Outside,
@@ -294,7 +296,7 @@ pub fn date_of(t: Instant) -> Dated
 
 // ---- Moving an instant.
 
-#[derive(Drop)]
+#[derive(Clone, Copy)]
 pub enum Moved {
     To(Instant),
     // Refusal 9: the span is beyond 3,652 days.
@@ -336,7 +338,7 @@ pub fn move_by(t: Instant, span: Microseconds) -> Moved
 
 // ---- Time since an epoch.
 
-#[derive(Drop)]
+#[derive(Clone, Copy)]
 pub enum Elapsed {
     Is(Microseconds),
     // Refusal 6: an instant given is outside 1957-2056.
@@ -358,14 +360,14 @@ pub fn since(t: Instant, epoch: Instant) -> Elapsed
 // ---- Days and the Greenwich angle.
 
 // A count of days at an instant.
-#[derive(Drop)]
+#[derive(Clone, Copy)]
 pub enum DayCount {
     Is(Days),
     // Refusal 6: the instant is outside 1957-2056.
     Outside,
 }
 
-#[derive(Drop)]
+#[derive(Clone, Copy)]
 pub enum Angle {
     Is(Radians),
     // Refusal 6: the instant is outside 1957-2056.

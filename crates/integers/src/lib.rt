@@ -1,4 +1,6 @@
 // What bytes, records and instants all need of whole numbers.
+#![tactic(auto)]
+
 ghost use Rattle.std.specs.Prelude.{◌≡◌, nat_abs};
 
 // How far a number lies from 0, for every i64: one more than a negative number's complement.

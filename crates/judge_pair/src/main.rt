@@ -1,5 +1,7 @@
 // Reads two lines from standard input, in whatever pieces they come, and tells their owner first whether
 // they are well formed and then whether their fields are in range (document 02, wish 9).
+#![tactic(auto)]
+
 use line_input::{Input, next_line, whole_in};
 use refusal_line::put_judged;
 

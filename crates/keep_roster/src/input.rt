@@ -12,7 +12,7 @@ use roster_calls::Lodging;
 use roster_file::lodge_in;
 use roster_words::{put_lodging, put_total};
 
-#[derive(Drop)]
+#[derive(Clone, Copy)]
 pub(crate) struct Tally {
     pub pairs: u64,
     pub lodged: u64,

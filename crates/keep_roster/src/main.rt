@@ -1,6 +1,8 @@
 // Keeps a roster in a file: lodges the pairs of a text from standard input, withdraws a number, or lists
 // the pairs by age. The file is replaced whole before anything is told of it, under a lock, so that nothing
 // that is told is lost, whatever stops the program and however many run at once.
+#![tactic(auto)]
+
 mod input; // the pairs of a text lodged
 
 use files::read_file;

@@ -1,5 +1,7 @@
 // Calls on a roster that is kept without its row, as in a file: the row is filled for the call, so that
 // what is answered and what becomes of the roster depend on its bytes alone.
+#![tactic(auto)]
+
 ghost use Rattle.std.specs.Prelude.{◌≡◌};
 ghost use Rattle.text.specs.Output.{Put};
 ghost use Rattle.roster.specs.Roster.{roster_of};

@@ -1,4 +1,6 @@
 // An award plan in lent memory checked, for C and Rust: what checking answers as one number.
+#![tactic(auto)]
+
 ghost use Rattle.std.specs.Prelude.{◌≡◌};
 ghost use Rattle.award.specs.Plan.{answer_of};
 ghost use Rattle.lent_award.specs.Answer.{award_answer, PlaceFits};

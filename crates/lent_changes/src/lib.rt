@@ -1,4 +1,6 @@
 // Two rosters in lent memory compared, for C and Rust: what comparing answers as one number.
+#![tactic(auto)]
+
 ghost use Rattle.std.specs.Prelude.{◌≡◌, length};
 ghost use Rattle.roster.specs.Row.{roster_with};
 ghost use Rattle.compare.specs.Compare.{compared_of, compared_over};

@@ -1,6 +1,8 @@
 // What the functions for C and Rust answer of the form of two lines alone, and of the meaning of fields
 // alone (document 02, wish 9), with all that they leave in lent memory. `saddlekerf_form` and
 // `saddlekerf_meaning` are these, exported.
+#![tactic(auto)]
+
 ghost use Rattle.std.specs.Prelude.{◌≡◌, length};
 ghost use Rattle.tle.specs.Read.{form_of};
 ghost use Rattle.record_numbers.specs.Numbers.{judged_of};

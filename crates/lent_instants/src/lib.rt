@@ -1,5 +1,7 @@
 // Instants for C and Rust: an instant moved, taken apart into a date, and made from one; the answer, and
 // what is left in lent memory.
+#![tactic(auto)]
+
 ghost use Rattle.std.specs.Prelude.{◌≡◌, length};
 ghost use Rattle.instant.specs.Calendar.{date_of};
 ghost use Rattle.instant.specs.declared.Dated.TheVariants.{On};

@@ -1,4 +1,6 @@
 // A pair opened into memory that a caller lends: the function behind `saddlekerf_open`.
+#![tactic(auto)]
+
 ghost use Rattle.std.specs.Prelude.{◌≡◌, length};
 ghost use Rattle.answers.specs.Answer.{answer};
 ghost use Rattle.opening.specs.Opening.{open_of, opened, open_pair_of, number};

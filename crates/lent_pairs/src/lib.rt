@@ -1,6 +1,8 @@
 // What the functions for C and Rust answer about pairs, with all that they leave in lent memory: read,
 // printed, the epoch, the record, a line written, a roster. `saddlekerf_read` and its like are these,
 // exported.
+#![tactic(auto)]
+
 ghost use Rattle.std.specs.Prelude.{◌≡◌, length};
 ghost use Rattle.tle.specs.Read.{read_of};
 ghost use Rattle.text.specs.Output.{fronted};

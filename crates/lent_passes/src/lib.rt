@@ -1,6 +1,8 @@
 // The next pass of a satellite in memory that a caller lends, and where it stands at an instant: the
 // functions behind `saddlekerf_next_pass` and `saddlekerf_look`. The satellite's memory is lent for reading
 // alone.
+#![tactic(auto)]
+
 ghost use Rattle.std.specs.Prelude.{◌≡◌, ◌≤◌, length};
 ghost use Rattle.passes.specs.declared.Passing.TheVariants as passing;
 ghost use Rattle.passes.specs.Passes.{pass_refusal};

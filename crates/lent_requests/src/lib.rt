@@ -1,5 +1,7 @@
 // Requests put to a satellite in memory that a caller lends: the functions behind `saddlekerf_request` and
 // `saddlekerf_request_list`.
+#![tactic(auto)]
+
 ghost use Rattle.std.specs.Prelude.{◌≡◌, ◌≤◌, length};
 ghost use Rattle.answers.specs.Answer.{answer};
 ghost use Rattle.lent_requests.specs.Requests as R;

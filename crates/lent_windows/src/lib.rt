@@ -1,5 +1,7 @@
 // A call for windows put to a satellite in memory that a caller lends: the function behind
 // `saddlekerf_windows`.
+#![tactic(auto)]
+
 ghost use Rattle.std.specs.Prelude.{◌≡◌, ◌%◌};
 ghost use Rattle.earth_fixed.specs.Frame.{at};
 ghost use Rattle.answers.specs.Answer.{answer};

@@ -1,7 +1,7 @@
 -- The turns of `read_on`: every piece so far is gone into the line, and none had a newline.
 use Prim.Native.Nat.{ℕ, ◌+◌, ◌≤◌, min}
 use mathlib.Core.Path.{◌≡◌, refl, sym, ap, ◌∙◌}
-use mathlib.Core.List.{List, [], ◌++◌, append_nil}
+use mathlib.Core.List.{List, [], ◌++◌, append-nil}
 use mathlib.Core.Bool.{Bool, true, false, cond, not}
 use native.Mathlib.Omega.{arith}
 use native.Mathlib.Nat.{min-eq_left, min-eq_right}
@@ -80,7 +80,7 @@ module _ (buffer : List ℕ) (at end : ℕ) {line line' : List ℕ} {size : ℕ}
   -- what waited has it
   pub at_once : size ≡ 0 → length line ≤ most → Found false 0 rest line buffer line' (ended r.next end r.size)
   unfolding line_of ended_in
-  at_once z k = newline rest [] [] (append_nil rest) refl (rw z (pieces.none k (omega arith)))
+  at_once z k = newline rest [] [] (append-nil rest) refl (rw z (pieces.none k (omega arith)))
 
 -- what waited has none, and the line goes on
 pub on : {failed : Bool} {line line' line'' : List ℕ} {size : ℕ} (waited buffer : List ℕ) {r : Next} → ended_in waited ≡ false → Put line 0 (line_of waited) line' size

@@ -1,6 +1,8 @@
 // Standard input line by line, in whatever pieces it arrives. A line is ended by a newline or by the end
 // of the input, and a last one without a newline counts if it has a byte. The caller lends a buffer for
 // the pieces, the same for every line, and a room for the line. As in streams, a failure stays marked.
+#![tactic(auto)]
+
 ghost use Rattle.std.specs.Prelude.{min, ◌≡◌, false, [], length};
 ghost use Rattle.io.specs.Counts.{IsPrefixLen};
 ghost use Rattle.line_input.specs.Lines.{started, ended, finished, whole_in, Found, Nexts};
@@ -9,7 +11,7 @@ use text::gather;
 
 // The bytes that were read and are no part of a line yet stand in the buffer from `at` to `end`; with
 // `over` set there is nothing more to read.
-#[derive(Drop)]
+#[derive(Clone, Copy)]
 pub struct Input {
     pub at: usize,
     pub end: usize,
@@ -17,7 +19,7 @@ pub struct Input {
 }
 
 // How many bytes the line has, with those that its room does not hold.
-#[derive(Drop)]
+#[derive(Clone, Copy)]
 pub struct Next {
     pub input: Input,
     pub size: usize,

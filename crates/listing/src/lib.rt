@@ -1,5 +1,7 @@
 // The printed pair (document 01, "One pair, printed"): a record as sixteen labelled lines, or `refused`
 // and the number, into a lent buffer.
+#![tactic(auto)]
+
 ghost use Rattle.std.specs.Prelude.{◌≡◌, [], ◌∷◌, ◌++◌, ◌≤◌, min, take};
 ghost use Rattle.text.specs.Output.{Put, line, decimal, signed};
 ghost use Rattle.listing.specs.Listing.{trimmed, designator_text, epoch_text, scaled_text, fields1, fields2, record_text, reading_text, lines_text, pair_text, Prints};
@@ -150,7 +152,7 @@ fn put_reading(out: &mut [u8], at: usize, reading: Reading) -> usize
 }
 
 // What printing gives: how many bytes were written, or refusal 17.
-#[derive(Drop)]
+#[derive(Clone, Copy)]
 pub enum Printed {
     Written(usize),
     RoomTooShort,

@@ -6,7 +6,7 @@ use instant::{Days, Minutes, Radians};
 use satellite::{LunarSolar, Periodics};
 
 // Sines and cosines of the satellite's own angles.
-#[derive(Drop)]
+#[derive(Clone, Copy)]
 pub struct Angles {
     pub snodm: f64,
     pub cnodm: f64,
@@ -17,7 +17,7 @@ pub struct Angles {
 }
 
 // The Moon's angles, which are the epoch's alone.
-#[derive(Drop)]
+#[derive(Clone, Copy)]
 pub struct Lunar {
     pub zcosgl: f64,
     pub zsingl: f64,
@@ -27,7 +27,7 @@ pub struct Lunar {
     pub zsinhl: f64,
 }
 
-#[derive(Drop)]
+#[derive(Clone, Copy)]
 pub struct Shape {
     pub nm: f64,
     pub em: f64,
@@ -37,7 +37,7 @@ pub struct Shape {
 }
 
 // The Sun or the Moon, as 002's loop takes it.
-#[derive(Drop)]
+#[derive(Clone, Copy)]
 pub struct Body {
     pub zcosg: f64,
     pub zsing: f64,
@@ -48,7 +48,7 @@ pub struct Body {
     pub cc: f64,
 }
 
-#[derive(Drop)]
+#[derive(Clone, Copy)]
 pub struct Axes {
     pub a1: f64,
     pub a2: f64,
@@ -67,7 +67,7 @@ pub struct Axes {
 }
 
 // s1 to s7 of one body; 002 has the Sun's as ss1 to ss7.
-#[derive(Drop)]
+#[derive(Clone, Copy)]
 pub struct S {
     pub s1: f64,
     pub s2: f64,
@@ -79,7 +79,7 @@ pub struct S {
 }
 
 // z1 to z33 of one body; 002 has the Sun's as sz1 to sz33.
-#[derive(Drop)]
+#[derive(Clone, Copy)]
 pub struct Z {
     pub z1: f64,
     pub z2: f64,
@@ -96,13 +96,13 @@ pub struct Z {
 }
 
 // What one turn of 002's loop gives.
-#[derive(Drop)]
+#[derive(Clone, Copy)]
 pub struct Pass {
     pub s: S,
     pub z: Z,
 }
 
-#[derive(Drop)]
+#[derive(Clone, Copy)]
 pub struct Common {
     pub angles: Angles,
     pub shape: Shape,

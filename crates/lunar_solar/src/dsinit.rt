@@ -9,7 +9,7 @@ use satellite::SecularRates;
 const PI: f64 = 3.141592653589793;
 
 // One body's share of the rates.
-#[derive(Drop)]
+#[derive(Clone, Copy)]
 pub struct BodyRates {
     pub e: f64,
     pub i: f64,

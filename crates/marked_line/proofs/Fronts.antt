@@ -1,7 +1,7 @@
 -- One turn of the loops that show bytes and repeat one; the front of a line, however short the line is.
 use Prim.Native.Nat.{ℕ, suc, ◌+◌, ◌-◌, ◌<◌, ◌≤◌, min}
 use mathlib.Core.Path.{◌≡◌, refl, sym, ap, ◌∙◌}
-use mathlib.Core.List.{List, [], ◌∷◌, ◌++◌, map, map_append}
+use mathlib.Core.List.{List, [], ◌∷◌, ◌++◌, map, map-append}
 use native.Mathlib.Omega.{arith}
 use native.Mathlib.Numerals.{add-one}
 use lib.ListN.{length, drop, take, get_or, replicate, replicate-append-replicate, drop_of_length-le, length-drop}
@@ -18,7 +18,7 @@ use Rattle.marked_line.specs.Marked.{visible}
 pub one_more : {o o' o'' : List ℕ} {a b d v : ℕ} (s : List ℕ) (i : ℕ) → i < length s → v ≡ visible (get_or s i 0)
     → Put o a (map visible (take i s)) o' b → Put o' b (v ∷ []) o'' d → Put o a (map visible (take (i + 1) s)) o'' d
 one_more s i h e p q =
-    rw (add-one, take-suc s i 0 h, map_append visible (take i s) (get_or s i 0 ∷ []))
+    rw (add-one, take-suc s i 0 h, map-append visible (take i s) (get_or s i 0 ∷ []))
     (both p (same (ap (λ x. x ∷ []) e) q))
 
 pub all_shown : {o o' : List ℕ} {a b : ℕ} (s : List ℕ) (i : ℕ) → length s ≤ i → Put o a (map visible (take i s)) o' b → Put o a (map visible s) o' b

@@ -1,5 +1,7 @@
 // A line of text shown with marks under some of its columns, the bytes of some columns, and a byte named
 // in words. Each byte takes one place, whatever it is, so that a mark stands under its column.
+#![tactic(auto)]
+
 ghost use Rattle.std.specs.Prelude.{◌≡◌, map, [], ◌∷◌, min, ◌≤◌, replicate, take};
 ghost use Rattle.text.specs.Output.{Put};
 ghost use Rattle.marked_line.specs.Marked.{visible, part, shown, marked, numbered, named};

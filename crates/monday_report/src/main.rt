@@ -1,5 +1,7 @@
 // The Monday report (document 02, wish 4): reads a text of pairs from standard input, in whatever
 // pieces it comes, and prints thirteen lines, or `refused` and the number.
+#![tactic(auto)]
+
 mod lines; // the report, printed
 
 ghost use Rattle.report.specs.State.{begun, More};
@@ -9,7 +11,7 @@ use listing::Printed;
 use report::State;
 
 // The state after a read, and whether to go on.
-#[derive(Drop)]
+#[derive(Clone, Copy)]
 struct Turn {
     state: State,
     more: bool,

@@ -1,5 +1,7 @@
 // Moves of an instant one after the other (document 02, wish 12): what two moves come to, and a move there
 // and back. The instant in the middle is judged as any other.
+#![tactic(auto)]
+
 ghost use Rattle.std.specs.Prelude.{◌≤◌, nat_abs, neg_ℤ, ◌≡◌};
 ghost use Rattle.instant.specs.Move.{move_of};
 ghost use Rattle.moves.specs.Moves.{Twice, Back};

@@ -1,7 +1,7 @@
 // What one step of the set-up hands to the next, under 002's names.
 
 // What initl gives.
-#[derive(Drop)]
+#[derive(Clone, Copy)]
 pub struct Initl {
     pub no: f64,
     pub ao: f64,
@@ -18,14 +18,14 @@ pub struct Initl {
 }
 
 // sgp4init: the heights of the density function.
-#[derive(Drop)]
+#[derive(Clone, Copy)]
 pub struct Atmosphere {
     pub sfour: f64,
     pub qzms24: f64,
 }
 
 // sgp4init: what the drag terms are made of.
-#[derive(Drop)]
+#[derive(Clone, Copy)]
 pub struct Shape {
     pub tsi: f64,
     pub eta: f64,

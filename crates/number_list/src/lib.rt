@@ -1,11 +1,13 @@
 // Whole numbers in a row: none or more decimals below 2^64, one blank before each. They go into a lent
 // row.
+#![tactic(auto)]
+
 ghost use Rattle.std.specs.Prelude.{◌≡◌, false, ◌≤◌, ◌<◌, ◌+◌, ◌*◌, leb, length, drop};
 ghost use Rattle.std.proofs.lemmas.List.Edits.{sets};
 ghost use Rattle.number_list.specs.Numbers.{most_number, read_on, numbers_of, count_of, faulty, blanked, digited, stepped, stored};
 
 // How far a number has been read, and how many came before it.
-#[derive(Drop)]
+#[derive(Clone, Copy)]
 struct Scan {
     good: bool,
     some: bool,
@@ -103,7 +105,7 @@ fn store(t: Scan, b: u8, row: &mut [u64])
 }
 
 // How many numbers there are, also those that the row has no place for.
-#[derive(Drop)]
+#[derive(Clone, Copy)]
 pub enum Numbers {
     Read(usize),
     Malformed,

@@ -10,7 +10,7 @@ use satellite::Elements;
 
 // What deep space needs of the epoch, the elements and the mean motion alone. Its steps are long, and
 // nothing of the near-Earth part waits for them, nor they for it: begun first, they run beside it.
-#[derive(Drop)]
+#[derive(Clone, Copy)]
 pub struct Ahead {
     pub aonv: f64,
     pub angles: Angles,

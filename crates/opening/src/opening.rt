@@ -22,28 +22,28 @@ use satellite::{DeepSpace, Elements, Method, Model};
 use tle::{Form, Reading, Record, legal, read_form, read_meaning};
 
 // An opened satellite: what no request changes, and the saved position.
-#[derive(Drop)]
+#[derive(Clone, Copy)]
 pub struct Satellite {
     pub model: Model,
     pub place: Place,
 }
 
 // Why a record does not open: document 01's refusals 16, 7 and 8.
-#[derive(Drop)]
+#[derive(Clone, Copy)]
 pub enum Refusal {
     Record,
     Perigee,
     NotFinite,
 }
 
-#[derive(Drop)]
+#[derive(Clone, Copy)]
 pub enum Opening {
     Opened(Satellite),
     Refused(Refusal),
 }
 
 // What two lines open to: Unread is a refusal of reading, 1 to 6.
-#[derive(Drop)]
+#[derive(Clone, Copy)]
 pub enum PairOpening {
     Opened(Satellite),
     Unread(tle::Refusal),

@@ -1,12 +1,14 @@
 // The pairs of a text on standard input, in whatever pieces it comes. The caller lends a buffer for the
 // pieces, the rooms of the two lines and one for what is said. As in streams, a failure stays marked.
+#![tactic(auto)]
+
 ghost use Rattle.pair_input.specs.Reads.{Reads};
 
 use line_input::{Input, next_line};
 use pair_steps::{Pairs, Step, finish, take_next};
 
 // With what was read and is no part of a line yet.
-#[derive(Drop)]
+#[derive(Clone, Copy)]
 pub struct Stepped {
     pub input: Input,
     pub step: Step,

@@ -1,5 +1,7 @@
 // Which line of a text of pairs is which, and what is said of one that is no line of a pair: a blank line,
 // a name, a line 1 or a line 2 that stands alone. The heading of a pair, and the last line of a listing.
+#![tactic(auto)]
+
 ghost use Rattle.std.specs.Prelude.{◌≡◌};
 ghost use Rattle.text.specs.Output.{Put};
 ghost use Rattle.pair_lines.specs.Sort.{all_blank, begins, sort_of};
@@ -8,7 +10,7 @@ ghost use Rattle.pair_lines.specs.Said.{remark_text, said_text, blank_text, head
 use marked_line::put_shown;
 use text::{put_byte, put_bytes, put_decimal};
 
-#[derive(Drop)]
+#[derive(Clone, Copy)]
 pub enum Sort {
     Blank,
     One,
@@ -63,7 +65,7 @@ pub fn sort_of(line: &[u8]) -> Sort
 }
 
 // What may be said of a line that is in no pair.
-#[derive(Drop)]
+#[derive(Clone, Copy)]
 pub enum Remark {
     Name,
     NoSecond,

@@ -1,5 +1,7 @@
 // The pairs of a text, line by line: which two lines are a pair, and what is said of a line that is in
 // none. The caller lends the room of the line 1 that waits for its line 2 and one for what is said.
+#![tactic(auto)]
+
 ghost use Rattle.std.specs.Prelude.{◌≡◌, take};
 ghost use Rattle.text.specs.Output.{Put};
 ghost use Rattle.pair_steps.specs.Fate.{fate_of, fate_in, more};
@@ -11,7 +13,7 @@ use text::put_bytes;
 
 // How many lines the text had so far, and of the line 1 that waits for its line 2 the number and the size,
 // both 0 where none does.
-#[derive(Drop)]
+#[derive(Clone, Copy)]
 pub struct Pairs {
     pub lines: u64,
     pub held: u64,
@@ -20,7 +22,7 @@ pub struct Pairs {
 
 // What becomes of a line: it waits for its line 2, it is the line 2 of the one that waits, or it is in no
 // pair.
-#[derive(Drop)]
+#[derive(Clone, Copy)]
 pub enum Fate {
     Waits,
     Completes,
@@ -30,7 +32,7 @@ pub enum Fate {
 
 // What a line came to: a pair, whose line 1 has so many bytes of its room and whose line 2 the other; so
 // many bytes that are said of it, none where it waits; or the end of the text.
-#[derive(Drop)]
+#[derive(Clone, Copy)]
 pub enum What {
     Pair(usize, usize),
     Said(usize),
@@ -50,7 +52,7 @@ impl What {
 }
 
 // With the number of the first line of a pair.
-#[derive(Drop)]
+#[derive(Clone, Copy)]
 pub struct Step {
     pub pairs: Pairs,
     pub what: What,

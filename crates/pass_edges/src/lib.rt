@@ -1,5 +1,7 @@
 // The edges of a pass, refined by halving to the microsecond, and its highest point, by thirds to a
 // millisecond.
+#![tactic(auto)]
+
 ghost use Rattle.std.specs.Prelude.{◌≡◌, ◌+◌, ◌-◌, max, min};
 ghost use Rattle.pass_edges.specs.Search as S;
 
@@ -9,7 +11,7 @@ use opening::opening::Satellite;
 use sightings::seen_at;
 
 // The highest sample so far.
-#[derive(Drop)]
+#[derive(Clone, Copy)]
 pub struct Best {
     pub at: u64,
     pub sine: f64,
@@ -25,7 +27,7 @@ fn above(satellite: Satellite, site: Site, least: f64, t: u64) -> bool
 }
 
 // An instant that is not above, and one that is; either may come first.
-#[derive(Drop)]
+#[derive(Clone, Copy)]
 pub struct Ends {
     pub below: u64,
     pub above: u64,
@@ -85,7 +87,7 @@ pub fn edge(satellite: Satellite, site: Site, least: f64, below: u64, above: u64
 
 // ---- The highest point.
 
-#[derive(Drop)]
+#[derive(Clone, Copy)]
 pub struct Bracket {
     pub lo: u64,
     pub hi: u64,

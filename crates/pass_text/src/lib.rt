@@ -1,4 +1,6 @@
 // The line of a pass.
+#![tactic(auto)]
+
 ghost use Rattle.text.specs.Output.{Put};
 ghost use Rattle.pass_text.specs.Print.{rise_word, set_word, edge_text, top_text, pass_text};
 

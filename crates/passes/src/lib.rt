@@ -1,5 +1,7 @@
 // The next pass of a satellite over a station: found among samples, its edges refined to the microsecond,
 // its highest point to a millisecond. A caller goes on at the sample where a pass ended.
+#![tactic(auto)]
+
 ghost use Rattle.std.specs.Prelude.{◌≡◌, ◌≤◌};
 ghost use Rattle.sightings.specs.Sightings.{seen_at};
 ghost use Rattle.passes.specs.Samples as S;
@@ -15,7 +17,7 @@ use windows::Seconds;
 // ---- Samples.
 
 // A scan stops at the sample that is wanted, the next, or where the calendar ends. The last is the one before.
-#[derive(Drop)]
+#[derive(Clone, Copy)]
 pub struct Scan {
     pub stop: bool,
     pub found: bool,
@@ -26,7 +28,7 @@ pub struct Scan {
 }
 
 // A scan and the samples left, the one that it stopped at among them.
-#[derive(Drop)]
+#[derive(Clone, Copy)]
 struct Scanned {
     left: u32,
     scan: Scan,
@@ -143,7 +145,7 @@ fn scan_samples(
 
 // Rise, highest point and set; whether it was above at the first sample, and at the last. The next call
 // goes on at `next` with `left` samples.
-#[derive(Drop)]
+#[derive(Clone, Copy)]
 pub struct Pass {
     pub rise: Instant,
     pub highest: Instant,
@@ -154,7 +156,7 @@ pub struct Pass {
     pub left: u32,
 }
 
-#[derive(Drop)]
+#[derive(Clone, Copy)]
 pub enum Passing {
     Found(Pass),
     // No sample is above.

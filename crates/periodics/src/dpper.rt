@@ -12,7 +12,7 @@ const PI: f64 = 3.141592653589793;
 
 const TWOPI: f64 = 6.283185307179586;
 
-#[derive(Drop)]
+#[derive(Clone, Copy)]
 pub struct Factors {
     pub sinzf: f64,
     pub f2: f64,
@@ -20,7 +20,7 @@ pub struct Factors {
 }
 
 // ses, sis, sls, sghs, shs of 002 for the Sun, sel, sil, sll, sghl, shll for the Moon.
-#[derive(Drop)]
+#[derive(Clone, Copy)]
 pub struct Sums {
     pub e: f64,
     pub i: f64,
@@ -29,7 +29,7 @@ pub struct Sums {
     pub h: f64,
 }
 
-#[derive(Drop)]
+#[derive(Clone, Copy)]
 pub struct Changes {
     pub pe: f64,
     pub pinc: f64,
@@ -39,13 +39,13 @@ pub struct Changes {
 }
 
 // alfdp and betdp of 002.
-#[derive(Drop)]
+#[derive(Clone, Copy)]
 pub struct Point {
     pub alfdp: f64,
     pub betdp: f64,
 }
 
-#[derive(Drop)]
+#[derive(Clone, Copy)]
 pub struct Perturbed {
     pub ep: f64,
     pub inclp: f64,

@@ -1,12 +1,14 @@
 // Reads two lines from standard input, in whatever pieces they come, and prints the fields of the pair,
 // or `refused` and the number (document 01, "One pair, printed").
+#![tactic(auto)]
+
 ghost use Rattle.text.specs.Input.{started, More};
 
 use listing::Printed;
 use text::Lines;
 
 // The lines after a read, and whether to go on.
-#[derive(Drop)]
+#[derive(Clone, Copy)]
 struct Turn {
     lines: Lines,
     more: bool,

@@ -1,6 +1,8 @@
 // What the programs answer, printed line by line on standard output: a `row` line for each row, or
 // `refused` and the number, and a `strides` line. An answer is the number that lent_requests gives, with
 // the rooms that it filled. As in streams, a failure stays marked.
+#![tactic(auto)]
+
 ghost use Rattle.std.specs.Prelude.{◌≡◌, true, ◌≤◌, ◌<◌};
 
 use row_line::put_row;

@@ -16,7 +16,7 @@ use satellite::{Elements, NearEarth};
 use tle::{Record, legal};
 
 // Why a record does not open in the profile.
-#[derive(Drop)]
+#[derive(Clone, Copy)]
 pub enum Refusal {
     Record,
     Perigee,
@@ -25,7 +25,7 @@ pub enum Refusal {
 }
 
 // What the satellite of a record is made of, and its epoch.
-#[derive(Drop)]
+#[derive(Clone, Copy)]
 pub enum Opening {
     Opened(NearEarth, Instant),
     Refused(Refusal),

@@ -13,14 +13,14 @@ use satellite::NearEarth;
 use sgp4::{Row, refused_row, row_of};
 
 // One time's refusal number (0 when answered, 17 where the room is too short) and the Kepler rounds.
-#[derive(Drop)]
+#[derive(Clone, Copy)]
 pub struct Asked {
     pub refusal: u8,
     pub rounds: u8,
 }
 
 // A list's refusal number (0 when answered), and whether any of its times is one that the profile takes.
-#[derive(Drop)]
+#[derive(Clone, Copy)]
 pub struct Listed {
     pub refusal: u8,
     pub taken: bool,

@@ -1,5 +1,7 @@
 // Why two lines are refused, in a sentence (document 01, refusals 1 to 6), with the line at fault below it
 // and marks under the columns.
+#![tactic(auto)]
+
 ghost use Rattle.std.specs.Prelude.{◌≡◌};
 ghost use Rattle.text.specs.Output.{Put};
 ghost use Rattle.reading_faults.specs.Ranges.{field_text, limits_text, from_of, width_of, range_in, range_text};

@@ -1,5 +1,7 @@
 // A record, or fields not yet judged, as whole numbers in memory that a caller lends. specs/Numbers has
 // the layout.
+#![tactic(auto)]
+
 ghost use Rattle.std.specs.Prelude.{◌≡◌, ◌++◌, ◌+◌, ◌<◌, ◌≤◌, ◌^◌, pos, length, drop};
 ghost use Rattle.tle.specs.Read.{letter};
 ghost use Rattle.record_numbers.specs.Numbers as N;
@@ -10,7 +12,7 @@ use tle::{
 
 // What numbers give: a record, legal or not; 16, since the class is none; 17, since there are fewer
 // than 22.
-#[derive(Drop)]
+#[derive(Clone, Copy)]
 pub enum Given {
     Fields(Record),
     NoClass,
@@ -31,7 +33,7 @@ impl Given {
 }
 
 // A designator's launch, and its places as bytes.
-#[derive(Drop)]
+#[derive(Clone, Copy)]
 struct Places {
     launch: u64,
     a: u64,
@@ -255,7 +257,7 @@ pub fn record_of(fields: &[i64]) -> Given
 }
 
 // What judging numbers gives: what the fields that they give mean, or 17, since there are fewer than 22.
-#[derive(Drop)]
+#[derive(Clone, Copy)]
 pub enum Judged {
     Meaning(Reading),
     TooShort,

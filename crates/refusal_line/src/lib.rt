@@ -1,6 +1,8 @@
 // A refusal of reading as a line of text: `refused`, the number, and what comes back with it, which is
 // a line, a line and a column, or a field. What an owner is told of two lines: their form first, then
 // what their fields mean.
+#![tactic(auto)]
+
 ghost use Rattle.std.specs.Prelude.{◌≡◌};
 ghost use Rattle.text.specs.Output.{Put};
 ghost use Rattle.refusal_line.specs.Refusal.{field_text, line_text, place_text, values_text, refusal_text};

@@ -4,6 +4,8 @@
 // `opened`; or `refused` and the number, and nothing for the requests after it. A line that begins with 1
 // begins another pair. The stored input has the published pairs and times, and then cases of requests:
 // tests/published_rows.py makes it and the expected output.
+#![tactic(auto)]
+
 mod answer;
 
 ghost use Rattle.std.specs.Prelude.{◌≡◌, true};
@@ -17,7 +19,7 @@ use text::put_bytes;
 
 // What the next line is: the first of a pair, the second (behind a first of so many bytes), a request, or
 // nothing after a refused pair.
-#[derive(Drop)]
+#[derive(Clone, Copy)]
 enum Stage {
     First,
     Second(usize),

@@ -1,7 +1,7 @@
 -- A whole pair, fed to a state in which none has begun, is that pair counted (`whole_pair`); and the turns of `line_end` and `feed_pair`.
 use Prim.Native.Nat.{ℕ, suc, ◌<◌, ◌≤◌, ◌+◌, ◌-◌}
 use mathlib.Core.Path.{◌≡◌, refl, sym, ap, ◌∙◌}
-use mathlib.Core.List.{List, [], ◌∷◌, ◌++◌, append_nil, append_assoc}
+use mathlib.Core.List.{List, [], ◌∷◌, ◌++◌, append-nil, append_assoc}
 use mathlib.Core.Bool.{Bool, true, false, cond}
 use native.Mathlib.Omega.{arith}
 use native.Mathlib.Numerals.{add-one}
@@ -55,7 +55,7 @@ first_by : (t : Bool) (b : ℕ) (q : List ℕ) (c : Count) (f g : Line) (x : Lis
     → (Holds (text.pushed f b) (x ++ (b ∷ [])) → length (line_of q) < length q
     → First c (text.pushed f b) g (x ++ (b ∷ [])) (line_of q) (drop (suc (length (line_of q))) q) q)
     → First c f g x (cond t [] (b ∷ line_of q)) (drop (suc (length (cond t [] (b ∷ line_of q)))) (b ∷ q)) (b ∷ q)
-first_by true b q c f g x e h l r = record { held = f; holds = rw (append_nil x) h; is = fed_more _ _ b q (turn0 true c f g b e) }
+first_by true b q c f g x e h l r = record { held = f; holds = rw (append-nil x) h; is = fed_more _ _ b q (turn0 true c f g b e) }
 first_by false b q c f g x e h l r =
     let s = r (push_holds b h) (omega arith) in
     record { held = s.held; holds = rw append_assoc at s.holds; is = fed_more _ _ b q (turn0 false c f g b e) ∙ s.is }
@@ -74,7 +74,7 @@ second_by : (t : Bool) (b : ℕ) (q : List ℕ) (c : Count) (f g : Line) (x y : 
     → (Holds (text.pushed g b) (y ++ (b ∷ [])) → length (line_of q) < length q → Second c f (text.pushed g b) x (y ++ (b ∷ [])) (line_of q) q)
     → Second c f g x y (cond t [] (b ∷ line_of q)) (b ∷ q)
 second_by true b q c f g x y e h k l r =
-    fed_more _ _ b q (turn1 true c f g b e) ∙ rw (append_nil y) (ap (λ d. fed (fresh d) q) (kept_pair c f g x y h k))
+    fed_more _ _ b q (turn1 true c f g b e) ∙ rw (append-nil y) (ap (λ d. fed (fresh d) q) (kept_pair c f g x y h k))
 second_by false b q c f g x y e h k l r = fed_more _ _ b q (turn1 false c f g b e) ∙ rw append_assoc at (r (push_holds b k) (omega arith))
 
 second : (q : List ℕ) (c : Count) (f g : Line) (x y : List ℕ) → Holds f x → Holds g y → length (line_of q) < length q → Second c f g x y (line_of q) q

@@ -1,6 +1,8 @@
 // The Monday report (document 02, wish 4): a text of pairs, counted as it comes in, in pieces of any
 // size. Memory is fixed whatever the text: of the pair that has begun the first 70 bytes of each line,
 // and the numbers of the report.
+#![tactic(auto)]
+
 pub mod numbers;
 
 ghost use Rattle.std.specs.Prelude.{◌≡◌, ◌+◌, ◌<◌, ◌≤◌, length, take, drop};
@@ -15,7 +17,7 @@ use text::{Line, Lines};
 use tle::{Form, Reading, Record, epoch, read_form, read_meaning};
 
 // An accepted record's epoch: its year and day, as the record has them, and its instant.
-#[derive(Drop)]
+#[derive(Clone, Copy)]
 pub struct Stamp {
     pub year: u64,
     pub day: u64,
@@ -23,7 +25,7 @@ pub struct Stamp {
 }
 
 // The pairs refused under each number from 1 to 6.
-#[derive(Drop)]
+#[derive(Clone, Copy)]
 pub struct Refusals {
     pub one: u64,
     pub two: u64,
@@ -34,7 +36,7 @@ pub struct Refusals {
 }
 
 // What has been counted. Where no pair is accepted the two epochs say nothing.
-#[derive(Drop)]
+#[derive(Clone, Copy)]
 pub struct Tally {
     pub accepted: u64,
     pub refused: Refusals,
@@ -46,21 +48,21 @@ pub struct Tally {
 }
 
 // The whole pairs so far, 4097 where there are more than 4096, and the tally of the first 4096.
-#[derive(Drop)]
+#[derive(Clone, Copy)]
 pub struct Count {
     pub pairs: u64,
     pub tally: Tally,
 }
 
 // The state between two pieces: the two lines of the pair that has begun, and the pairs before it.
-#[derive(Drop)]
+#[derive(Clone, Copy)]
 pub struct State {
     pub lines: Lines,
     pub count: Count,
 }
 
 // What a text comes to: its numbers; or 23, more than 4,096 whole pairs; or 24, an odd number of lines.
-#[derive(Drop)]
+#[derive(Clone, Copy)]
 pub enum Report {
     Counted(Tally),
     TooMany,
@@ -68,7 +70,7 @@ pub enum Report {
 }
 
 // The heading of an accepted pair.
-#[derive(Drop)]
+#[derive(Clone, Copy)]
 pub enum Kind {
     Near,
     Deep,
@@ -337,7 +339,7 @@ fn nothing() -> Count
 }
 
 // A state, and the index in the piece that comes next.
-#[derive(Drop)]
+#[derive(Clone, Copy)]
 struct Fed {
     state: State,
     next: usize,

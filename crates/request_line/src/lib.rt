@@ -1,12 +1,14 @@
 // A request line: `one` and a time, or `list` and none or more times, each a decimal count of
 // microseconds with an optional minus sign, one blank before each. The times go into a lent row.
+#![tactic(auto)]
+
 ghost use Rattle.std.specs.Prelude.{◌≡◌, true, ◌≤◌, ◌<◌, ◌+◌, ◌*◌, min, length};
 ghost use Rattle.std.proofs.lemmas.List.Edits.{sets};
 ghost use Rattle.request_line.specs.Times.{signed, limit, times_of, count_of, faulty, blanked, minused, digited, stepped, stored};
 ghost use Rattle.request_line.specs.Request.{begun, single_of, several_of, one_of, list_of, request_of, row_of};
 
 // How far a time has been read, and how many came before it.
-#[derive(Drop)]
+#[derive(Clone, Copy)]
 struct Scan {
     good: bool,
     minus: bool,
@@ -134,7 +136,7 @@ fn store(t: Scan, b: u8, row: &mut [i64])
 }
 
 // How many times there are, also those that the row has no place for.
-#[derive(Drop)]
+#[derive(Clone, Copy)]
 enum Times {
     Read(usize),
     Malformed,
@@ -182,7 +184,7 @@ pub fn begins(s: &[u8], word: &[u8]) -> bool
     true
 }
 
-#[derive(Drop)]
+#[derive(Clone, Copy)]
 pub enum Request {
     // One time, at the front of the row.
     One,

@@ -1,5 +1,7 @@
 // Requests for position and velocity: one time, or a list of times, put to any satellite. Of the
 // satellite only the saved position changes. Crate sequences has the claim about whole sequences.
+#![tactic(auto)]
+
 ghost use Rattle.std.specs.Prelude.{◌≡◌, ◌+◌, ◌*◌, ◌≤◌, ◌<◌, length, set};
 ghost use Rattle.std.proofs.lemmas.List.Edits.{sets};
 ghost use Rattle.sgp4.specs.Sgp4.{integrator_of};
@@ -18,7 +20,7 @@ use sgp4::pairs::rows_at;
 use sgp4::{Row, integrator_of, refused_row, row_at};
 
 // What a time gives at a saved position, and what it makes of that.
-#[derive(Drop)]
+#[derive(Clone, Copy)]
 pub struct Asked {
     pub row: Row,
     pub strides: Strides,
@@ -26,14 +28,14 @@ pub struct Asked {
 }
 
 // The same of two times, the second at the position that the first leaves.
-#[derive(Drop)]
+#[derive(Clone, Copy)]
 pub struct AskedTwo {
     pub first: Asked,
     pub second: Asked,
 }
 
 // A single request's answer, with the satellite to be handed to the next.
-#[derive(Drop)]
+#[derive(Clone, Copy)]
 pub struct Answered {
     pub row: Row,
     pub strides: Strides,
@@ -42,7 +44,7 @@ pub struct Answered {
 
 // A list's refusal number (0 when answered) and all its strides, with the satellite to be handed to
 // the next.
-#[derive(Drop)]
+#[derive(Clone, Copy)]
 pub struct ListAnswer {
     pub refusal: u8,
     pub strides: Strides,
@@ -50,20 +52,20 @@ pub struct ListAnswer {
 }
 
 // The position that a time needs with the derivatives there, and the strides to it.
-#[derive(Drop)]
+#[derive(Clone, Copy)]
 pub struct Carried {
     pub held: Held,
     pub strides: Strides,
 }
 
 // Two times asked, with the position that the second leaves and the derivatives there.
-#[derive(Drop)]
+#[derive(Clone, Copy)]
 struct HeldTwo {
     two: AskedTwo,
     held: Held,
 }
 
-#[derive(Drop)]
+#[derive(Clone, Copy)]
 struct Filled {
     strides: Strides,
     place: Place,

@@ -4,7 +4,7 @@ use Prim.Native.Nat.{ℕ, zero, suc, ◌+◌, ◌-◌, ◌≤◌, ◌<◌}
 use native.Mathlib.Omega.{arith}
 use mathlib.Core.Bool.{Bool, true, false, ◌&&◌, not}
 use lib.Dec.{ltb}
-use borrow.Author.Tests.{ltb-false, not_true}
+use borrow.Author.Tests.{ltb-false, not-true}
 use Rattle.satellite.specs.declared.Integrator.{Integrator}
 use Rattle.resonance.specs.declared.place.Side.{Side}
 use Rattle.resonance.specs.declared.place.Place.{Place}
@@ -24,7 +24,7 @@ pub begun_le : (i : Integrator) (p : Place) (d : Side) (m : ℕ) → number (beg
 unfolding begun resumes epoch_of
 begun_le i p d m =
     begun_pick (resumes p d m) (epoch_of i) p d m
-    (λ h. ltb-false m (number p) (not_true (ltb m (number p)) (and_left (not (ltb m (number p))) _ h))) refl
+    (λ h. ltb-false m (number p) (not-true (ltb m (number p)) (and_left (not (ltb m (number p))) _ h))) refl
 
 pub stride_number : (i : Integrator) (p : Place) → number (stride i p) ≡ number p + 1
 unfolding stride

@@ -5,7 +5,7 @@ ghost use Rattle.resonance.specs.Dots as D;
 use elementary::{SinCos, sin_cos};
 use satellite::{HalfDay, OneDay, Resonance};
 
-#[derive(Drop)]
+#[derive(Clone, Copy)]
 pub struct Dots {
     pub xndt: f64,
     pub xldot: f64,
@@ -13,7 +13,7 @@ pub struct Dots {
 }
 
 // The arguments of the half-day terms, named by their coefficients.
-#[derive(Drop)]
+#[derive(Clone, Copy)]
 pub struct Phases {
     pub p2201: f64,
     pub p2211: f64,
@@ -28,7 +28,7 @@ pub struct Phases {
 }
 
 // The sine and the cosine of each of the ten.
-#[derive(Drop)]
+#[derive(Clone, Copy)]
 pub struct Waves {
     pub w2201: SinCos,
     pub w2211: SinCos,

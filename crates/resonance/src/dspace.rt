@@ -10,7 +10,7 @@ use resonance_terms::dsinit::theta_of;
 use satellite::{Integrator, Resonance, SecularRates};
 
 // The mean elements that 002's dspace is handed and changes.
-#[derive(Drop)]
+#[derive(Clone, Copy)]
 pub struct Mean {
     pub nm: f64,
     pub em: f64,

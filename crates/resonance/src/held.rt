@@ -9,7 +9,7 @@ use instant::Strides;
 use satellite::Integrator;
 
 // The derivatives count only where they are known.
-#[derive(Drop)]
+#[derive(Clone, Copy)]
 pub struct Held {
     pub place: Place,
     pub dots: Dots,

@@ -7,14 +7,14 @@ use instant::Strides;
 use satellite::{Integrator, Resonance};
 
 // The side of the epoch.
-#[derive(Drop)]
+#[derive(Clone, Copy)]
 pub enum Side {
     Forward,
     Back,
 }
 
 // A side, a stride number and the integrated pair.
-#[derive(Drop)]
+#[derive(Clone, Copy)]
 pub struct Place {
     pub side: Side,
     pub strides: Strides,
@@ -23,7 +23,7 @@ pub struct Place {
 }
 
 // What a request makes of the saved position, and the strides that it took.
-#[derive(Drop)]
+#[derive(Clone, Copy)]
 pub struct Advance {
     pub place: Place,
     pub strides: Strides,

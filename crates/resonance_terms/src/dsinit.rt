@@ -10,7 +10,7 @@ use satellite::{HalfDay, Integrator, OneDay, Resonance, SecularRates};
 const RPTIM: f64 = 4.37526908801129966e-3;
 
 // What the coefficients rest on, as dscom leaves it; ecco and eccsq are the record's.
-#[derive(Drop)]
+#[derive(Clone, Copy)]
 pub struct Orbit {
     pub sinim: f64,
     pub cosim: f64,
@@ -22,7 +22,7 @@ pub struct Orbit {
 }
 
 // The elements and rates at the epoch.
-#[derive(Drop)]
+#[derive(Clone, Copy)]
 pub struct Epoch {
     pub mo: f64,
     pub nodeo: f64,
@@ -35,13 +35,13 @@ pub struct Epoch {
     pub gsto: f64,
 }
 
-#[derive(Drop)]
+#[derive(Clone, Copy)]
 pub struct Start {
     pub xlamo: f64,
     pub xfact: f64,
 }
 
-#[derive(Drop)]
+#[derive(Clone, Copy)]
 pub struct Low {
     pub g211: f64,
     pub g310: f64,
@@ -51,14 +51,14 @@ pub struct Low {
     pub g520: f64,
 }
 
-#[derive(Drop)]
+#[derive(Clone, Copy)]
 pub struct High {
     pub g533: f64,
     pub g521: f64,
     pub g532: f64,
 }
 
-#[derive(Drop)]
+#[derive(Clone, Copy)]
 pub struct Inclined {
     pub f220: f64,
     pub f221: f64,

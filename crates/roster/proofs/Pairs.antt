@@ -2,7 +2,7 @@
 use Prim.Native.Nat.{ℕ, ◌+◌, ◌-◌, ◌<◌, ◌≤◌}
 use mathlib.Core.Path.{◌≡◌, refl, ap, sym, ◌∙◌}
 use mathlib.Core.Bool.{Bool, true, false, cond}
-use mathlib.Core.List.{List, ◌++◌, append_assoc, append_nil}
+use mathlib.Core.List.{List, ◌++◌, append_assoc, append-nil}
 use native.Mathlib.Omega.{arith}
 use borrow.Author.Tests.{le-leb, lt-leb}
 use lib.ListN.{length, take, drop, length-append, length-drop, drop_of_length-le, take-append-drop}
@@ -140,7 +140,7 @@ number_fits r h = omega (arith, (facts r h).number)
 -- all of a room of one pair
 pub whole : (l : List ℕ) (r : Record) → length l ≡ 138 → legal r ≡ true → pair_over 0 r l ≡ pair_bytes r
 unfolding over
-whole l r h k = pair_over_lem r 0 l k (omega arith) ∙ rw (drop_of_length-le l {i = 138} (omega arith)) (append_nil (pair_bytes r))
+whole l r h k = pair_over_lem r 0 l k (omega arith) ∙ rw (drop_of_length-le l {i = 138} (omega arith)) (append-nil (pair_bytes r))
 
 module _ (p : List ℕ) (long : length p ≡ 138) (g : Reading) (read : g ≡ read_of (take 69 p) (take 69 (drop 69 p))) where
   both_lines : g ≡ read_of (take 69 p) (drop 69 p)

@@ -1,6 +1,8 @@
 // A roster of pairs in a lent buffer of 8,832 bytes (document 02, wish 2): up to 64 pairs of 138 bytes as
 // tle_writer writes them, by rising catalogue number, packed from the front, zeros after. Beside it lies a
 // row of 64 instants, one for each place (wish 8). Crate roster_calls has the calls that change both.
+#![tactic(auto)]
+
 
 ghost use Rattle.std.specs.Prelude.{◌≡◌};
 ghost use Rattle.roster.specs.Roster.{is_none};

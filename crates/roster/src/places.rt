@@ -8,7 +8,7 @@ use tle::{Form, Line, Reading, Record, read_form, read_meaning};
 use tle_writer::fill_line;
 
 // What a place that is not all zeros holds.
-#[derive(Drop)]
+#[derive(Clone, Copy)]
 pub enum Place {
     Pair(Record),
     Damaged,

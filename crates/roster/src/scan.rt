@@ -13,7 +13,7 @@ use tle::{Record, epoch};
 
 // Of the pairs passed: how many, how many below a number, and whether one has it; low is the least
 // number that may come next.
-#[derive(Drop)]
+#[derive(Clone, Copy)]
 pub struct Tally {
     pub number: u64,
     pub count: usize,
@@ -22,14 +22,14 @@ pub struct Tally {
     pub low: u64,
 }
 
-#[derive(Drop)]
+#[derive(Clone, Copy)]
 pub enum Scanned {
     Roster(Tally),
     NoRoster,
 }
 
 // What a pass found, and the instants of the pairs: 0 past the last, and zeros where it is no roster.
-#[derive(Drop)]
+#[derive(Clone, Copy)]
 pub struct Contents {
     pub found: Scanned,
     pub row: [u64; 64],

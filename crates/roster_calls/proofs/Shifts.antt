@@ -1,7 +1,7 @@
 -- The loops that move a buffer's bytes up and down by w, and clear its end.
 use Prim.Native.Nat.{ℕ, zero, suc, ◌+◌, ◌-◌, ◌<◌, ◌≤◌}
 use mathlib.Core.Path.{◌≡◌, ap, sym, ◌∙◌}
-use mathlib.Core.List.{List, ◌++◌, append_nil}
+use mathlib.Core.List.{List, ◌++◌, append-nil}
 use native.Mathlib.Numerals.{add-one}
 use native.Mathlib.Omega.{arith}
 use lib.ListN.{length, take, drop, set, get_or, replicate, length-append, length-drop, drop_of_length-le, get_or-append}
@@ -48,7 +48,7 @@ module _ (l : List ℕ) (at w : ℕ) (fits : at + w ≤ length l) where
   pub up_start : l ≡ up (length l - (at + w))
   up_start =
       rw (take_all (at + w + (length l - (at + w))) l (omega arith), drop_of_length-le moved {i = length l - (at + w)} (omega (arith, length_moved)))
-      (sym (append_nil l))
+      (sym (append-nil l))
 
   ahead : (j : ℕ) → at + w + suc j ≤ length l → get_or (up (suc j)) (at + j) 0 ≡ get_or moved j 0
   ahead j h =
@@ -85,7 +85,7 @@ module _ (l : List ℕ) (at w : ℕ) (fits : at + w ≤ length l) where
 pub cleared : (l : List ℕ) (i : ℕ) → length l ≤ i → i ≤ length l → replicate i 0 ++ drop i l ≡ replicate (length l) 0
 cleared l i g h =
     let e : i ≡ length l = omega arith in
-    rw (drop_of_length-le l {i = i} g, e) (append_nil (replicate (length l) 0))
+    rw (drop_of_length-le l {i = i} g, e) (append-nil (replicate (length l) 0))
 
 -- the end of what was moved down, cleared: as the part that was lent comes back
 module _ (l m z : List ℕ) (at w : ℕ) (fits : at + w ≤ length l) (down' : m ≡ moved_down at w l) (long : length m ≡ length l)
@@ -110,4 +110,4 @@ module _ (l m z : List ℕ) (at w : ℕ) (fits : at + w ≤ length l) (down' : m
   unfolding closed
   closing =
       rw (front, all_zeros, drop_of_length-le (drop (length l - w) m) {i = length m - (length l - w)} (omega (arith, behind_end)))
-      (ap (λ (t : List ℕ). take at l ++ drop (at + w) l ++ t) (append_nil (replicate w 0)))
+      (ap (λ (t : List ℕ). take at l ++ drop (at + w) l ++ t) (append-nil (replicate w 0)))

@@ -1,5 +1,7 @@
 // Calls on a roster of pairs and the row of instants beside it (document 02, wishes 2 and 8): lodging,
 // withdrawing, and filling the row of a roster that was kept without one. Crate roster has what both are.
+#![tactic(auto)]
+
 
 ghost use Rattle.std.specs.Prelude.{◌≡◌, true};
 ghost use Rattle.tle.specs.Legal.{legal};
@@ -19,7 +21,7 @@ mod rows;
 pub use gaps::clear;
 
 // What lodging answers.
-#[derive(Drop)]
+#[derive(Clone, Copy)]
 pub enum Lodging {
     Lodged,
     // 1 to 6: reading refuses the lines.
@@ -49,7 +51,7 @@ impl Lodging {
 }
 
 // What withdrawing answers.
-#[derive(Drop)]
+#[derive(Clone, Copy)]
 pub enum Withdrawal {
     Withdrawn,
     // 22: the buffer is no roster or has another length, or the row has another length or disagrees with
@@ -73,7 +75,7 @@ impl Withdrawal {
 }
 
 // What filling the row answers.
-#[derive(Drop)]
+#[derive(Clone, Copy)]
 pub enum Filling {
     Filled,
     // 22: the buffer is no roster or has another length, or the row has another length.

@@ -1,5 +1,7 @@
 // A roster in a file: a pair lodged and a number withdrawn, under a lock, the file replaced whole where the
 // roster changed. As in streams, a failure is told once and stays marked, and then nothing is done.
+#![tactic(auto)]
+
 ghost use Rattle.std.specs.Prelude.{◌≡◌, true};
 ghost use Rattle.roster_file.specs.Answers.{Lodges, Withdraws};
 

@@ -2,7 +2,7 @@
 use Prim.Native.Nat.{ℕ, ◌≤◌}
 use mathlib.Core.Path.{◌≡◌, refl, ap, sym, ◌∙◌}
 use mathlib.Core.Bool.{Bool, true, false, cond}
-use mathlib.Core.List.{List, [], ◌∷◌, ◌++◌, append_nil, flat_map}
+use mathlib.Core.List.{List, [], ◌∷◌, ◌++◌, append-nil, flat_map}
 use mathlib.Core.Option.{Option, none, some}
 use native.Mathlib.Omega.{arith}
 use borrow.Author.Tests.{eq-eqb}
@@ -60,7 +60,7 @@ refusal_number_lem NoForm = refl
 
 module _ (m : Lent) (h : List Call) (K : Kept m h) where
   refused : Kept m (h ++ [])
-  refused = rw (append_nil h) K
+  refused = rw (append-nil h) K
 
   unread : (why : Refusal) (c : Call) → Kept m (noted h c (number_of why))
   unread why c = rw (refusal_number_lem why) refused
@@ -123,10 +123,10 @@ module _ (m : Lent) (h : List Call) (K : Kept m h) where
 
 noted_more : (x : Bool) (h : List Call) (c : Call) (later : List Call) → h ++ cond x (c ∷ []) [] ++ later ≡ h ++ cond x (c ∷ later) later
 noted_more true h c later = append_snoc h c later
-noted_more false h c later = ap (λ (t : List Call). t ++ later) (append_nil h)
+noted_more false h c later = ap (λ (t : List Call). t ++ later) (append-nil h)
 
 kept_all : (cs : List Call) (m : Lent) (h : List Call) → Kept m h → Kept (after_all m cs) (h ++ accepted cs (answers_to m cs))
-kept_all [] m h K = rw (append_nil h) K
+kept_all [] m h K = rw (append-nil h) K
 kept_all (c ∷ cs) m h K =
     rw (noted_more (eqb (answer_to m c) 0) h c (accepted cs (answers_to (after m c) cs))) at
     (kept_all cs (after m c) (noted h c (answer_to m c)) (kept_after m h K c))

@@ -1,4 +1,6 @@
 // A whole script of calls, run on a roster in a lent buffer and the row beside it: the total of running code.
+#![tactic(auto)]
+
 
 ghost use Rattle.std.specs.Prelude.{◌≡◌, ◌++◌, ◌+◌, ◌/◌, ◌≤◌, leb, ltb, length, drop};
 ghost use Rattle.roster_script.specs.Total.{lent, answer_to, after, answers_to, after_all};
@@ -7,7 +9,7 @@ ghost use Rattle.roster_script.specs.Script.{call_of, taken, script, needed, ran
 use roster_calls::{fill_row, lodge, withdraw};
 
 // What became of a script: run; or not begun, for want of text or of room for the answers (17).
-#[derive(Drop)]
+#[derive(Clone, Copy)]
 pub enum Ran {
     Done,
     Short,

@@ -1,5 +1,7 @@
 // What a roster's program is told and what it tells: the words of its commands, and the answers to
 // lodging and withdrawing in a sentence.
+#![tactic(auto)]
+
 ghost use Rattle.std.specs.Prelude.{◌≡◌};
 ghost use Rattle.text.specs.Output.{Put};
 ghost use Rattle.roster_words.specs.Command.{command_of};
@@ -11,7 +13,7 @@ use roster_listing::read;
 use text::{put_byte, put_bytes, put_decimal};
 use tle::Reading;
 
-#[derive(Drop)]
+#[derive(Clone, Copy)]
 pub enum Command {
     Lodge,
     Withdraw,

@@ -1,5 +1,7 @@
 // A row of an answer as a line of text: `row`, the refusal number, position and velocity as the bit
 // patterns of six f64, and the Kepler rounds.
+#![tactic(auto)]
+
 ghost use Rattle.std.specs.Prelude.{◌≡◌, ◌∷◌};
 ghost use Rattle.text.specs.Output.{Put, pattern};
 ghost use Rattle.row_line.specs.Row.{three_text, row_text};

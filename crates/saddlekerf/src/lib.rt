@@ -1,6 +1,8 @@
 // The library's boundary to C and Rust: functions on numbers and slices, each a function of a crate
 // below (those named lent_) under an exported name. A satellite lies in memory that the caller lends
 // (crate storage). include/saddlekerf.h has the same for C.
+#![tactic(auto)]
+
 ghost use Rattle.std.specs.Prelude.{◌≡◌, ◌%◌, length};
 ghost use Rattle.columns.specs.Sum.{sum};
 ghost use Rattle.tle.specs.Read.{form_of, read_of};

@@ -1,5 +1,7 @@
 // The profile's boundary to C and Rust: the functions of module `lent` under their exported names.
 // include/saddlekerf_profile.h has the same for C.
+#![tactic(auto)]
+
 pub mod lent;
 
 ghost use Rattle.std.specs.Prelude.{◌≡◌, length};

@@ -1,9 +1,11 @@
 // The opened satellite's parts, as structs alone: 002's record (its struct elsetrec) under 002's names.
+#![tactic(auto)]
+
 use instant::Instant;
 
 // The elements that sgp4init is handed. An opened satellite has them too, `no` then being the mean
 // motion that initl recovers: 002 writes it over the one handed in.
-#[derive(Drop)]
+#[derive(Clone, Copy)]
 pub struct Elements {
     pub bstar: f64,
     pub ecco: f64,
@@ -15,7 +17,7 @@ pub struct Elements {
 }
 
 // The drag terms.
-#[derive(Drop)]
+#[derive(Clone, Copy)]
 pub struct Drag {
     pub eta: f64,
     pub cc1: f64,
@@ -29,7 +31,7 @@ pub struct Drag {
 }
 
 // The drag terms of higher powers of time: zeros where isimp is 1.
-#[derive(Drop)]
+#[derive(Clone, Copy)]
 pub struct Higher {
     pub d2: f64,
     pub d3: f64,
@@ -40,7 +42,7 @@ pub struct Higher {
 }
 
 // The secular rates of the Earth's own gravity, and the drag on the node.
-#[derive(Drop)]
+#[derive(Clone, Copy)]
 pub struct Rates {
     pub mdot: f64,
     pub argpdot: f64,
@@ -50,7 +52,7 @@ pub struct Rates {
 
 // What the long- and short-period terms take from the inclination. In deep space sgp4 makes them anew
 // from the perturbed inclination at every time.
-#[derive(Drop)]
+#[derive(Clone, Copy)]
 pub struct Terms {
     pub con41: f64,
     pub x1mth2: f64,
@@ -61,7 +63,7 @@ pub struct Terms {
 
 // What sgp4 computes at every time and always the same: pow(xke / no, x2o3), sin(inclo), cos(inclo).
 // Not in 002's record.
-#[derive(Drop)]
+#[derive(Clone, Copy)]
 pub struct Kept {
     pub ao: f64,
     pub sinio: f64,
@@ -70,7 +72,7 @@ pub struct Kept {
 
 // All that a near-Earth satellite is made of; a deep-space satellite has it too. isimp is 1 in deep
 // space and where the perigee is below 220 km.
-#[derive(Drop)]
+#[derive(Clone, Copy)]
 pub struct NearEarth {
     pub elements: Elements,
     pub isimp: bool,
@@ -84,7 +86,7 @@ pub struct NearEarth {
 // What dscom keeps of one body, the Sun or the Moon, for dpper. 002 has these twice: for the Sun as
 // se2, se3, si2, si3, sl2, sl3, sl4, sgh2, sgh3, sgh4, sh2, sh3, and for the Moon as
 // ee2, e3, xi2, xi3, xl2, xl3, xl4, xgh2, xgh3, xgh4, xh2, xh3.
-#[derive(Drop)]
+#[derive(Clone, Copy)]
 pub struct Periodics {
     pub e2: f64,
     pub e3: f64,
@@ -101,7 +103,7 @@ pub struct Periodics {
 }
 
 // Both bodies' terms and their mean longitudes at the epoch.
-#[derive(Drop)]
+#[derive(Clone, Copy)]
 pub struct LunarSolar {
     pub sun: Periodics,
     pub moon: Periodics,
@@ -110,7 +112,7 @@ pub struct LunarSolar {
 }
 
 // The secular rates of the Sun and the Moon together.
-#[derive(Drop)]
+#[derive(Clone, Copy)]
 pub struct SecularRates {
     pub dedt: f64,
     pub didt: f64,
@@ -119,14 +121,14 @@ pub struct SecularRates {
     pub domdt: f64,
 }
 
-#[derive(Drop)]
+#[derive(Clone, Copy)]
 pub struct OneDay {
     pub del1: f64,
     pub del2: f64,
     pub del3: f64,
 }
 
-#[derive(Drop)]
+#[derive(Clone, Copy)]
 pub struct HalfDay {
     pub d2201: f64,
     pub d2211: f64,
@@ -140,7 +142,7 @@ pub struct HalfDay {
     pub d5433: f64,
 }
 
-#[derive(Drop)]
+#[derive(Clone, Copy)]
 pub enum Resonance {
     None,
     OneDay(OneDay),
@@ -148,7 +150,7 @@ pub enum Resonance {
 }
 
 // What the integration rests on.
-#[derive(Drop)]
+#[derive(Clone, Copy)]
 pub struct Integrator {
     pub resonance: Resonance,
     pub xlamo: f64,
@@ -160,7 +162,7 @@ pub struct Integrator {
 }
 
 // What a deep-space satellite has besides.
-#[derive(Drop)]
+#[derive(Clone, Copy)]
 pub struct DeepSpace {
     pub rates: SecularRates,
     pub periodics: LunarSolar,
@@ -168,7 +170,7 @@ pub struct DeepSpace {
 }
 
 // 002's method: 'n' or 'd'.
-#[derive(Drop)]
+#[derive(Clone, Copy)]
 pub enum Method {
     NearEarth,
     DeepSpace(DeepSpace),
@@ -176,7 +178,7 @@ pub enum Method {
 
 // Everything about an opened satellite that no request changes. The epoch, which 002 keeps as jdsatepoch,
 // is the record's instant: from it a request put by instant counts its time.
-#[derive(Drop)]
+#[derive(Clone, Copy)]
 pub struct Model {
     pub near: NearEarth,
     pub method: Method,

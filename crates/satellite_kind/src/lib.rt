@@ -1,5 +1,7 @@
 // What opening a record comes to in a word: the kind of the satellite, or why there is none; and how deep
 // a perigee lies.
+#![tactic(auto)]
+
 ghost use Rattle.std.specs.Prelude.{◌≡◌};
 ghost use Rattle.opening.specs.Opening.{open_of};
 ghost use Rattle.satellite_kind.specs.Kind as K;
@@ -13,7 +15,7 @@ use tle::Record;
 use wgs72::RADIUSEARTHKM;
 
 // Document 01's kinds of satellites, and refusals 7, 8 and 16.
-#[derive(Drop)]
+#[derive(Clone, Copy)]
 pub enum Kind {
     NearEarth,
     DeepSpace,

@@ -1,4 +1,6 @@
 // A whole script of requests, run from two lines: demand 3 of running code.
+#![tactic(auto)]
+
 ghost use Rattle.std.specs.Prelude.{◌≡◌};
 ghost use Rattle.script.specs.Script as S;
 
@@ -8,7 +10,7 @@ use script_steps::run_requests;
 
 // What became of a script: run; not begun, for want of times or of room (17); or not begun, since the
 // lines are refused by reading (1 to 6) or by opening (7 and 8).
-#[derive(Drop)]
+#[derive(Clone, Copy)]
 pub enum Ran {
     Done,
     Short,

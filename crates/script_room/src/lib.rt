@@ -1,5 +1,7 @@
 // The lengths of a script's requests: how many times each takes, and whether the times and the rooms
 // suffice for all of them.
+#![tactic(auto)]
+
 ghost use Rattle.std.specs.Prelude.{◌≡◌, ◌-◌, cond, eqb, leb};
 ghost use Rattle.script_room.specs.Room as R;
 

@@ -1,6 +1,6 @@
 -- A list's rows put after those that the rooms hold already.
 use mathlib.Core.Path.{◌≡◌, refl, sym, ap, ◌∙◌}
-use mathlib.Core.List.{List, [], ◌∷◌, ◌++◌, append_nil}
+use mathlib.Core.List.{List, [], ◌∷◌, ◌++◌, append-nil}
 use Prim.Native.Nat.{ℕ, zero, suc, ◌+◌, ◌-◌, ◌*◌, ◌≤◌}
 use native.Mathlib.Omega.{arith}
 use lib.ListN.{length, take, drop, length-drop}
@@ -29,7 +29,7 @@ module _ {A : Type 0} where
   -- and is put back after what lies before
   pub back : (l p : List A) (n : ℕ) → n ≤ length l → put_mid n (length l - n) l p ≡ take n l ++ p
   back l p n h =
-      ap (λ z. take n l ++ (p ++ z)) (Post-is n (length l) l h ∙ drop-length l) ∙ ap (λ z. take n l ++ z) (append_nil p)
+      ap (λ z. take n l ++ (p ++ z)) (Post-is n (length l) l h ∙ drop-length l) ∙ ap (λ z. take n l ++ z) (append-nil p)
 
 pub many_step : (s : Satellite) (ts : List ℤ) (rows : ℕ) (a : List ℕ) (b : List Float) (c : List ℕ) (r : ListAnswer) (a'' : List ℕ) (b'' : List Float) (c'' : List ℕ) (k : ℕ)
     → rows ≤ length a → 6 * rows ≤ length b → rows ≤ length c

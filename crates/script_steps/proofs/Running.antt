@@ -1,6 +1,6 @@
 -- A script's requests, one after the other: the invariant of the loop over them, and what it leaves.
 use mathlib.Core.Path.{◌≡◌, refl, sym, ap, ◌∙◌, subst}
-use mathlib.Core.List.{List, [], ◌∷◌, ◌++◌, append_assoc, append_nil, map}
+use mathlib.Core.List.{List, [], ◌∷◌, ◌++◌, append_assoc, append-nil, map}
 use Prim.Native.Nat.{ℕ, zero, suc, ◌+◌, ◌-◌, ◌*◌, ◌/◌, ◌≤◌, ◌<◌}
 use native.Mathlib.Numerals.{add-one}
 use native.Mathlib.Omega.{arith}
@@ -121,7 +121,7 @@ module _ {A : Type 0} where
       ∙ ap (λ k. (xs ++ ys) ++ drop k old) (sym (length-append xs ys))
 
 rows_snoc : (os : List Outcome) (o : Outcome) → rows_of (os ++ (o ∷ [])) ≡ rows_of os ++ o.rows
-rows_snoc [] o = append_nil o.rows
+rows_snoc [] o = append-nil o.rows
 rows_snoc (p ∷ os) o = ap (λ l. p.rows ++ l) (rows_snoc os o) ∙ sym (append_assoc p.rows (rows_of os) o.rows)
 
 refusals_append : (xs ys : List Row) → refusals_of (xs ++ ys) ≡ refusals_of xs ++ refusals_of ys
@@ -146,7 +146,7 @@ module _ {A B : Type 0} where
   map_length g (x ∷ xs) = ap suc (map_length g xs)
 
 windows_snoc : (os : List Outcome) (o : Outcome) → windows_of (os ++ (o ∷ [])) ≡ windows_of os ++ o.windows
-windows_snoc [] o = append_nil o.windows
+windows_snoc [] o = append-nil o.windows
 windows_snoc (p ∷ os) o = ap (λ l. p.windows ++ l) (windows_snoc os o) ∙ sym (append_assoc p.windows (windows_of os) o.windows)
 
 length_laid : (s : Satellite) (n z : ℕ) (ts : List ℤ) (ps : List Float) (qs : List ℕ) (i j k f l : ℕ) → length (laid s (request_of n z ts ps qs i j k f l)).rows ≡ length (written (request_of n z ts ps qs i j k f l))
@@ -530,7 +530,7 @@ running_done {s₀} {ns} {ts} {ps} {qs} {a₀} {b₀} {c₀} {f₀} {l₀} {d₀
     let v : j ≡ length ns = omega (arith, x.upto) in
     let none : drop j ns ≡ [] = ap (λ i. drop i ns) v ∙ drop-length ns in
     let all : x.done ≡ laid_all s₀ (script s₀ ns 0 ts ps qs (length a₀) (length b₀) (length c₀) (length f₀) (length l₀)) =
-    sym (append_nil x.done)
+    sym (append-nil x.done)
     ∙ ap (λ u. x.done ++ laid_all s (script s u j (drop at ts) ps qs (length a₀ - rows) (length b₀ - 6 * rows) (length c₀ - rows) (length f₀ - seen) (length l₀ - seen))) (sym none)
     ∙ x.whole in
     record {

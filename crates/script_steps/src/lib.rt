@@ -1,5 +1,7 @@
 // The requests of a script in lent memory, put to a satellite one after the other: single times, lists
 // and calls for windows.
+#![tactic(auto)]
+
 ghost use Rattle.std.specs.Prelude.{◌≡◌, ◌+◌, ◌-◌, ◌*◌, ◌/◌, ◌≤◌, true, length};
 ghost use Rattle.sequences.specs.Demand3 as D;
 ghost use Rattle.script_room.specs.Room as R;
@@ -11,7 +13,7 @@ use requests::request_list;
 use script_room::{added, suffices, taken};
 use windows::{Seconds, windows};
 
-#[derive(Drop)]
+#[derive(Clone, Copy)]
 struct Stepped {
     satellite: Satellite,
     strides: Strides,
@@ -53,7 +55,7 @@ fn step(
 }
 
 // What a call for windows asks.
-#[derive(Drop)]
+#[derive(Clone, Copy)]
 struct Asked {
     station: [f64; 3],
     start: Instant,
@@ -77,7 +79,7 @@ fn call_at(j: usize, stations: &[f64], spans: &[u64]) -> Asked
     }
 }
 
-#[derive(Drop)]
+#[derive(Clone, Copy)]
 struct Looked {
     satellite: Satellite,
     strides: Strides,

@@ -1,6 +1,8 @@
 // The state of a satellite at a time: 002's sgp4 over both of its methods, as document 01's row. Each
 // function is, bit for bit, its definition in specs/, where the comments give 002's lines. Any satellite
 // may be handed in; of one that was opened the row is 002's own (specs/Claims).
+#![tactic(auto)]
+
 ghost use Rattle.std.specs.Prelude.{◌≡◌};
 ghost use Rattle.sgp4.specs.Sgp4 as S;
 ghost use Rattle.sgp4.specs.Row as R;
@@ -16,7 +18,7 @@ pub mod deep_space;
 pub mod pairs;
 
 // A refusal number (0 when answered), position in km, velocity in km/s, and the Kepler rounds.
-#[derive(Drop)]
+#[derive(Clone, Copy)]
 pub struct Row {
     pub refusal: u8,
     pub x: f64,

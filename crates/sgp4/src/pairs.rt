@@ -12,7 +12,7 @@ use state::parts::ReadyPair;
 use state::sgp4::pairs::{pair_of, ready_two};
 
 // The rows of two times.
-#[derive(Drop)]
+#[derive(Clone, Copy)]
 pub struct Rows {
     pub first: Row,
     pub second: Row,

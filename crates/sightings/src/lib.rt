@@ -1,5 +1,7 @@
 // A satellite at an instant, as a station sees it: a single request, and its position in the station's
 // directions. Where there is no position it stands straight down.
+#![tactic(auto)]
+
 ghost use Rattle.std.specs.Prelude.{◌≡◌};
 ghost use Rattle.sightings.specs.Sightings as S;
 
@@ -11,7 +13,7 @@ use requests::request;
 use sgp4::Row;
 
 // The sine of the elevation, with the satellite to be handed to the next.
-#[derive(Drop)]
+#[derive(Clone, Copy)]
 pub struct Seen {
     pub sine: f64,
     pub satellite: Satellite,
@@ -55,7 +57,7 @@ pub fn seen_at(satellite: Satellite, site: Site, t: Instant) -> Seen
 
 // Azimuth, elevation and range, or the refusal of the row; 6 where the instant or the epoch lies outside
 // the calendar.
-#[derive(Drop)]
+#[derive(Clone, Copy)]
 pub enum Sighting {
     At(Look),
     Refused(u8),

@@ -26,6 +26,8 @@ not_zero m e w P v z =
 
 val_root : (y : Float) (w : ℕ) → 0 < w → HasValue y false w (2 ^ 1074) → sqrt_of y ≡ root_of w
 unfolding sqrt_of units_in
+val_root nan w P v = elim v [ ]
+val_root (inf _) w P v = elim v [ ]
 val_root (fin true m e) w P v = absurd (true≢false v.0)
 val_root (fin false m e) w P v =
     ap (λ (b : Bool). cond b (fin false m e) (root_of (units_in m e))) (ne_eqb m 0 (not_zero m e w P v.1))

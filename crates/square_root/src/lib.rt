@@ -1,5 +1,7 @@
 // The square root: the nearest f64. A candidate in floating point, of which nothing is proved but
 // its length, and then an exact check of it in whole numbers that all fit 64 bits.
+#![tactic(auto)]
+
 ghost use Rattle.std.specs.Prelude.{◌≡◌, cond, leb, ltb, ◌+◌, ◌-◌, ◌*◌, ◌/◌, ◌%◌, ◌^◌, ◌≤◌, ◌<◌};
 ghost use Rattle.square_root.specs.Root.{near_root, sqrt_of};
 

@@ -3,7 +3,7 @@ ghost use Rattle.std.specs.Prelude.{◌≡◌};
 ghost use Rattle.state.specs.Answer as N;
 
 // Position in km and velocity in km/s.
-#[derive(Drop)]
+#[derive(Clone, Copy)]
 pub struct State {
     pub rx: f64,
     pub ry: f64,
@@ -14,7 +14,7 @@ pub struct State {
 }
 
 // Document 01's refusals 10 to 15, in order. A near-Earth satellite never meets Eccentricity (12).
-#[derive(Drop)]
+#[derive(Clone, Copy)]
 pub enum Refusal {
     MeanMotion,
     MeanElements,
@@ -25,14 +25,14 @@ pub enum Refusal {
 }
 
 // A state with the rounds that Kepler's equation took.
-#[derive(Drop)]
+#[derive(Clone, Copy)]
 pub enum Answer {
     Given(State, u8),
     Refused(Refusal),
 }
 
 // What working on two times at once comes to: both answers, or nothing where either may be refused.
-#[derive(Drop)]
+#[derive(Clone, Copy)]
 pub enum Pair {
     Both(Answer, Answer),
     Apart,

@@ -2,7 +2,7 @@
 use satellite::Terms;
 
 // The angles and the drag at a time.
-#[derive(Drop)]
+#[derive(Clone, Copy)]
 pub struct Secular {
     pub mm: f64,
     pub argpm: f64,
@@ -13,14 +13,14 @@ pub struct Secular {
 }
 
 // The mean semi-major axis and eccentricity.
-#[derive(Drop)]
+#[derive(Clone, Copy)]
 pub struct Mean {
     pub am: f64,
     pub em: f64,
 }
 
 // The mean angles, each less whole turns.
-#[derive(Drop)]
+#[derive(Clone, Copy)]
 pub struct Angles {
     pub nodem: f64,
     pub argpm: f64,
@@ -28,7 +28,7 @@ pub struct Angles {
 }
 
 // The elements with the lunar-solar periodics.
-#[derive(Drop)]
+#[derive(Clone, Copy)]
 pub struct Perturbed {
     pub ep: f64,
     pub xincp: f64,
@@ -40,7 +40,7 @@ pub struct Perturbed {
 }
 
 // What the long-period terms begin with.
-#[derive(Drop)]
+#[derive(Clone, Copy)]
 pub struct Ready {
     pub p: Perturbed,
     pub am: f64,
@@ -48,14 +48,14 @@ pub struct Ready {
 }
 
 // The same of two times, or nothing where either is refused.
-#[derive(Drop)]
+#[derive(Clone, Copy)]
 pub enum ReadyPair {
     Both(Ready, Ready),
     Apart,
 }
 
 // With the long-period terms.
-#[derive(Drop)]
+#[derive(Clone, Copy)]
 pub struct Long {
     pub axnl: f64,
     pub aynl: f64,
@@ -64,7 +64,7 @@ pub struct Long {
 
 // The eccentric anomaly after some rounds, the last correction, and the sine and cosine that
 // the last round took.
-#[derive(Drop)]
+#[derive(Clone, Copy)]
 pub struct Anomaly {
     pub eo1: f64,
     pub tem5: f64,
@@ -74,7 +74,7 @@ pub struct Anomaly {
 }
 
 // The semi-latus rectum, with el2, of which it is made.
-#[derive(Drop)]
+#[derive(Clone, Copy)]
 pub struct Latus {
     pub el2: f64,
     pub pl: f64,
@@ -82,7 +82,7 @@ pub struct Latus {
 
 // What does not wait for Kepler's equation and is begun before it: the roots of am, pl and 1 - el2, and
 // the mean motion nm of am.
-#[derive(Drop)]
+#[derive(Clone, Copy)]
 pub struct Ahead {
     pub root: f64,
     pub nm: f64,
@@ -91,7 +91,7 @@ pub struct Ahead {
 }
 
 // What is known of a time once Kepler's equation is solved.
-#[derive(Drop)]
+#[derive(Clone, Copy)]
 pub struct Solved {
     pub p: Perturbed,
     pub am: f64,
@@ -103,7 +103,7 @@ pub struct Solved {
 }
 
 // Position and velocity in the orbit's plane, but for the angle of sinu and cosu.
-#[derive(Drop)]
+#[derive(Clone, Copy)]
 pub struct InPlane {
     pub rl: f64,
     pub rdotl: f64,
@@ -113,7 +113,7 @@ pub struct InPlane {
 }
 
 // Position and velocity in the orbit's plane.
-#[derive(Drop)]
+#[derive(Clone, Copy)]
 pub struct Plane {
     pub rl: f64,
     pub rdotl: f64,
@@ -127,14 +127,14 @@ pub struct Plane {
 }
 
 // The same of two times.
-#[derive(Drop)]
+#[derive(Clone, Copy)]
 pub struct Planes {
     pub first: Plane,
     pub second: Plane,
 }
 
 // With the short-period terms.
-#[derive(Drop)]
+#[derive(Clone, Copy)]
 pub struct Short {
     pub mrt: f64,
     pub su: f64,

@@ -1,5 +1,7 @@
 // What `station_windows` answers on standard output: the windows above an Earth-fixed station, or the passes
 // over a geodetic one. As in streams, a failure stays marked.
+#![tactic(auto)]
+
 pub mod pass_lines; // the passes as lines, and printed
 
 ghost use Rattle.std.specs.Prelude.{◌≡◌, true, min};

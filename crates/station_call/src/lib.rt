@@ -1,6 +1,8 @@
 // Lines 3 to 6 of `station_windows`: the station, the start, the step in seconds and the number of samples.
 // A station is three decimals, Earth-fixed x, y and z in km, or `geodetic` and four: latitude and longitude
 // in degrees, height in metres above the WGS-84 ellipsoid, least elevation in degrees.
+#![tactic(auto)]
+
 ghost use Rattle.std.specs.Prelude.{◌≡◌};
 ghost use Rattle.station_text.specs.Words.{station_of};
 ghost use Rattle.text.specs.Output.{Put};
@@ -17,7 +19,7 @@ use text::put_bytes;
 
 // ---- The station.
 
-#[derive(Drop)]
+#[derive(Clone, Copy)]
 pub enum Place {
     Fixed { x: f64, y: f64, z: f64 },
     Over { station: Geodetic, least: Degrees },
@@ -87,7 +89,7 @@ pub fn read_place(line: &[u8]) -> Place
 
 // ---- The call.
 
-#[derive(Drop)]
+#[derive(Clone, Copy)]
 pub struct Call {
     pub place: Place,
     pub start: Start,
@@ -111,14 +113,14 @@ pub fn read_call(place: &[u8], start: &[u8], step: &[u8], count: &[u8]) -> Call
 }
 
 // So many samples from a start on, a step of seconds apart.
-#[derive(Drop)]
+#[derive(Clone, Copy)]
 pub struct Samples {
     pub start: Instant,
     pub step: u64,
     pub count: u64,
 }
 
-#[derive(Drop)]
+#[derive(Clone, Copy)]
 pub enum Sampling {
     At(Samples),
     Unread,

@@ -1,5 +1,7 @@
 // The lines of `station_windows` from standard input: the pair, opened (module `pair`), and lines 3 to 6, the
 // bad ones named on standard error. As in streams, a failure stays marked.
+#![tactic(auto)]
+
 pub mod pair;
 
 ghost use Rattle.std.specs.Prelude.{◌≡◌, true, eqb, length};

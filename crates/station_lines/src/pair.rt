@@ -6,7 +6,7 @@ use line_input::{Input, next_line, whole_in};
 use text::put_bytes;
 
 // The number of its refusal, or 0, and the input behind it.
-#[derive(Drop)]
+#[derive(Clone, Copy)]
 pub struct Opened {
     pub refusal: u64,
     pub input: Input,

@@ -1,5 +1,7 @@
 // The text of `station_windows`: a station as three decimals in km, a start as year, day and microseconds,
 // whole numbers, and the line of a window. Words have one blank between them.
+#![tactic(auto)]
+
 ghost use Rattle.std.specs.Prelude.{◌≡◌, cond, ◌≤◌, length, drop};
 ghost use Rattle.std.specs.Float.Ieee.{neg};
 ghost use Rattle.text.specs.Output.{Put};
@@ -39,7 +41,7 @@ pub fn after(s: &[u8], n: usize) -> usize
 }
 
 // A whole number as far as it is read: good where all bytes are digits.
-#[derive(Drop)]
+#[derive(Clone, Copy)]
 pub struct Whole {
     pub good: bool,
     pub value: u64,
@@ -99,7 +101,7 @@ pub fn read_whole(s: &[u8]) -> Whole
     digits_on(0, s)
 }
 
-#[derive(Drop)]
+#[derive(Clone, Copy)]
 pub enum Number {
     Is(u64),
     Unread,
@@ -118,7 +120,7 @@ pub fn read_number(line: &[u8]) -> Number
 
 // ---- The start.
 
-#[derive(Drop)]
+#[derive(Clone, Copy)]
 pub enum Start {
     At(Instant),
     Unread,
@@ -194,7 +196,7 @@ pub fn read_micro(s: &[u8]) -> Whole
 }
 
 // A decimal as far as it is read: good where it has its form.
-#[derive(Drop)]
+#[derive(Clone, Copy)]
 pub struct Decimal {
     pub good: bool,
     pub value: f64,
@@ -235,7 +237,7 @@ pub fn read_decimal(s: &[u8]) -> Decimal
     signed(from == 1, micro)
 }
 
-#[derive(Drop)]
+#[derive(Clone, Copy)]
 pub enum Station {
     At { x: f64, y: f64, z: f64 },
     Unread,

@@ -5,6 +5,8 @@
 // degrees, height in metres on the WGS-84 ellipsoid and least elevation in degrees, it is a line for each
 // pass and the number of passes. Or `refused` and the number. Bad lines are named on standard error, and
 // then nothing is printed.
+#![tactic(auto)]
+
 use printing::print_refused;
 use station_answers::answer;
 use station_lines::pair::read_pair;

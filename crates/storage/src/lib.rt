@@ -1,6 +1,8 @@
 // An opened satellite in memory that a caller lends: its f64s in `numbers`, the rest in `marks`.
 // specs/Storage has the layout. Any memory that is long enough holds a satellite; crate storing writes
 // one.
+#![tactic(auto)]
+
 ghost use Rattle.std.specs.Prelude.{◌≡◌, ◌≤◌, length};
 ghost use Rattle.storage.specs.Storage as S;
 ghost use Rattle.storage.specs.Near as N;
@@ -14,7 +16,7 @@ use satellite::{
 };
 
 // What loading gives: a satellite, or document 01's refusal 17.
-#[derive(Drop)]
+#[derive(Clone, Copy)]
 pub enum Loading {
     Loaded(Satellite),
     RoomTooShort,
@@ -34,7 +36,7 @@ impl Loading {
 
 // What loading a satellite near the Earth gives, from memory for its numbers alone: DeepSpace where the
 // memory holds another satellite, document 01's refusal 17 where it holds none.
-#[derive(Drop)]
+#[derive(Clone, Copy)]
 pub enum NearLoading {
     Loaded(NearEarth),
     DeepSpace,

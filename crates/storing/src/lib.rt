@@ -1,5 +1,7 @@
 // An opened satellite written into memory that a caller lends, by the layout of crate storage; what was
 // stored comes back the same (proofs/Kept).
+#![tactic(auto)]
+
 ghost use Rattle.std.specs.Prelude.{◌≡◌, ◌∷◌, ◌++◌, ◌+◌, ◌/◌, ◌%◌, ◌≤◌, length};
 ghost use Rattle.std.proofs.lemmas.List.Edits.{sets};
 ghost use Rattle.storage.specs.Storage as S;

@@ -1,6 +1,8 @@
 // Input and output for every program. A read or a write that fails is told once, in words, on standard error, and marks the flag that the program lends; from then on nothing is read, what the
 // program lends to read into stays, and nothing is printed. So a failed read is never taken for the end
 // of the input, and a program that passes the flag along has nothing else to look after.
+#![tactic(auto)]
+
 ghost use Rattle.std.specs.Prelude.{◌≡◌, true};
 ghost use Rattle.io.specs.Counts.{IsPrefixLen};
 

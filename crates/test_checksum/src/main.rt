@@ -1,5 +1,7 @@
 // Prints for each of the 256 byte values what it adds to the checksum. The expected output is made by
 // tests/checksum_weights.py.
+#![tactic(auto)]
+
 use columns::weight;
 use text::output::{put_byte, put_decimal};
 

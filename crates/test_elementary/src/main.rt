@@ -3,6 +3,8 @@
 // arguments and its result, as bit patterns of f64 in hex; every NaN is written `nan`. A line that
 // begins with `#` is a comment. A line of a known name that cannot be read counts as differing, and
 // one of no known name as not read.
+#![tactic(auto)]
+
 mod words; // from text to numbers
 mod tally; // what is counted
 

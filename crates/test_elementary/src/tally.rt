@@ -5,7 +5,7 @@ use crate::words::{begins, find, read_number};
 use crate::{ATAN2, CBRT, COMMENT, COS, SIN, SQRT, UNKNOWN};
 
 // How many lines were compared, how many differ, and where the first of those begins and ends.
-#[derive(Drop)]
+#[derive(Clone, Copy)]
 pub(crate) struct Tally {
     pub lines: u64,
     pub differ: u64,

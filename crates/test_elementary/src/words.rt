@@ -1,7 +1,7 @@
 // From the text of a line to numbers.
 ghost use Rattle.std.specs.Prelude.{◌≤◌, length};
 
-#[derive(Drop)]
+#[derive(Clone, Copy)]
 pub(crate) struct Number {
     pub value: f64,
     pub is_read: bool,
@@ -51,7 +51,7 @@ fn wide(b: u8) -> u64
     b as u64
 }
 
-#[derive(Drop)]
+#[derive(Clone, Copy)]
 struct Pattern {
     bits: u64,
     is_read: bool,

@@ -1,13 +1,15 @@
 // Runs stored cases of instants through the library and prints how many differ. A case is a line: an
 // operation's name and numbers of sixteen hexadecimal digits, arguments first, then the results that
 // tests/instant_cases.py expects.
+#![tactic(auto)]
+
 ghost use Rattle.std.specs.Prelude.{◌<◌, ◌≤◌};
 
 use instant::{Angle, Dated, DayCount, Elapsed, Epoch, Instant, Microseconds, Moved};
 
 // A line so far: its operation's name, read as a number; how many numbers it has, how many digits the
 // last one has, and the last four of them, d the last; and whether it broke the form.
-#[derive(Drop)]
+#[derive(Clone, Copy)]
 struct Line {
     name: u64,
     numbers: u64,
@@ -20,7 +22,7 @@ struct Line {
 }
 
 // How many lines of each operation were compared, how many differ, and the number of the first.
-#[derive(Drop)]
+#[derive(Clone, Copy)]
 struct Tallies {
     lines: u64,
     compared: [u64; 11],
@@ -28,7 +30,7 @@ struct Tallies {
     first: [u64; 11],
 }
 
-#[derive(Drop)]
+#[derive(Clone, Copy)]
 struct Run {
     line: Line,
     tallies: Tallies,
@@ -323,7 +325,7 @@ fn feed(r: Run, piece: &[u8]) -> Run {
 }
 
 // The state after a read, and whether to go on.
-#[derive(Drop)]
+#[derive(Clone, Copy)]
 struct Turn {
     run: Run,
     more: bool,

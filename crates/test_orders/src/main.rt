@@ -1,6 +1,8 @@
 // Puts the lists of times of standard input in the best order, and prints them as they came in: a line
 // each, `list` and the times with a blank before each. Input and expected output are made by
 // tests/time_orders.py, which orders times by itself.
+#![tactic(auto)]
+
 use line_input::{Input, next_line, whole_in};
 use outward_order::best_order;
 use request_line::{Request, read_request};
@@ -44,7 +46,7 @@ fn answer_line(failed: &mut bool, line: &[u8]) {
     streams::print(failed, b"no list\n");
 }
 
-#[derive(Drop)]
+#[derive(Clone, Copy)]
 struct Got {
     input: Input,
     found: bool,

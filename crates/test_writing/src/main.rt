@@ -2,6 +2,8 @@
 // that write_line tells, how many bytes it hands back, and the whole room. The rooms are longer than a
 // line, exactly a line, and a byte too short; then records that no line can hold. The input has 140 bytes
 // a pair: two lines of 69, each ended by a newline.
+#![tactic(auto)]
+
 use text::{put_byte, put_bytes, put_decimal};
 use tle::{Form, Line, Reading, Record};
 use tle_writer::write_line;

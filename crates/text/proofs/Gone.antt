@@ -1,7 +1,7 @@
 -- The turns of the loop of `gather`: what is left to gather is unchanged.
 use Prim.Native.Nat.{ℕ, ◌+◌, ◌<◌, ◌≤◌}
 use mathlib.Core.Path.{◌≡◌, refl, sym, ap, ◌∙◌}
-use mathlib.Core.List.{List, [], ◌∷◌, ◌++◌, append_nil, append_assoc}
+use mathlib.Core.List.{List, [], ◌∷◌, ◌++◌, append-nil, append_assoc}
 use mathlib.Core.Bool.{true, false, cond}
 use native.Mathlib.Omega.{arith}
 use native.Mathlib.Numerals.{add-one}
@@ -38,7 +38,7 @@ module _ {line₀ : List ℕ} {size₀ : ℕ} {rest₀ : List ℕ} {from : ℕ} 
         let c : i + length (line_of (drop i piece)) ≡ i + 0 = ap (λ s. i + length s) l in
         let b : ended_in rest₀ ≡ true = sym g.ends ∙ n in
         record {
-          put = same (sym (append_nil g.done) ∙ ap (λ s. g.done ++ s) (sym l) ∙ g.text) g.put;
+          put = same (sym (append-nil g.done) ∙ ap (λ s. g.done ++ s) (sym l) ∙ g.text) g.put;
           next = rw b (omega (arith, g.count));
           ended = sym b;
         }
@@ -71,7 +71,7 @@ module _ {line₀ : List ℕ} {size₀ : ℕ} {rest₀ : List ℕ} {from : ℕ} 
       let c : i + length (line_of (drop i piece)) ≡ i + 0 = ap (λ s. i + length s) l in
       let b : ended_in rest₀ ≡ false = sym g.ends ∙ n in
       record {
-        put = same (sym (append_nil g.done) ∙ ap (λ s. g.done ++ s) (sym l) ∙ g.text) g.put;
+        put = same (sym (append-nil g.done) ∙ ap (λ s. g.done ++ s) (sym l) ∙ g.text) g.put;
         next = rw b (omega (arith, g.count));
         ended = sym b;
       }

@@ -5,7 +5,7 @@ use mathlib.Core.List.{List, [], ◌∷◌, ◌++◌}
 use mathlib.Core.Bool.{Bool, true, false}
 use native.Mathlib.Omega.{arith}
 use native.Mathlib.Numerals.{add-one}
-use native.Mathlib.Nat.{zero-add, add_zero, add-suc, suc-add, min-eq_left, min-eq_right}
+use native.Mathlib.Nat.{zero-add, add-zero, add-suc, suc-add, min-eq_left, min-eq_right}
 use lib.Dec.{leb}
 use lib.ListN.{length, drop, take, get_or, set, length-append}
 use lib.Seq.{sets, length-sets, set_out, sets-eq, take-suc, take_all}
@@ -19,7 +19,7 @@ beyond (b ∷ s) o i h = rw (set_out o i b h) (beyond s o (suc i) (omega arith))
 
 -- a run of stores in two parts
 pub sets_more : (s t o : List ℕ) (i : ℕ) → sets (sets o i s) (i + length s) t ≡ sets o i (s ++ t)
-sets_more [] t o i = rw (add_zero i)
+sets_more [] t o i = rw (add-zero i)
 sets_more (b ∷ s) t o i = rw (add-suc i (length s), ← suc-add i (length s)) (sets_more s t (set o i b) (suc i))
 
 -- a position that counting stopped at stores as the true one does: both lie past the end

@@ -1,7 +1,7 @@
 -- The loops that spell a number from its last place: in decimal without leading zeros, and in fixed places.
 use Prim.Native.Nat.{ℕ, zero, suc, ◌+◌, ◌-◌, ◌/◌, ◌%◌, ◌^◌, ◌<◌, ◌≤◌}
 use mathlib.Core.Path.{◌≡◌, ◌∙◌, subst}
-use mathlib.Core.List.{List, ◌∷◌, ◌++◌, append_nil}
+use mathlib.Core.List.{List, ◌∷◌, ◌++◌, append-nil}
 use native.Mathlib.Omega.{arith}
 use native.Mathlib.Nat.{pow-suc}
 use lib.ListN.{length, take, drop, length-drop, set, length-set, drop_of_length-le}
@@ -15,7 +15,7 @@ at_set j b d h =
 
 -- spell w n ++ drop w d is the text so far: the digits left to do, and those done
 pub start : (w n : ℕ) (d : List ℕ) → length d ≤ w → spell w n ++ drop w d ≡ spell w n
-start w n d h = rw (drop_of_length-le d h) (append_nil (spell w n))
+start w n d h = rw (drop_of_length-le d h) (append-nil (spell w n))
 
 pub turn : (i m : ℕ) (d : List ℕ) → 1 ≤ i → i ≤ length d → 9 < m → spell i m ++ drop i d ≡ spell (i - 1) (m / 10) ++ drop (i - 1) (set d (i - 1) (48 + m % 10))
 unfolding spell
@@ -53,7 +53,7 @@ glyph_turn base (suc j) m d b q p h =
     rw (e, at_set j b d (omega arith), q) (append_snoc (places base j (m / base)) (glyph (m % base)) (drop (suc j) d))
 
 pub glyph_start : (base w n : ℕ) (d : List ℕ) → length d ≤ w → places base w n ++ drop w d ≡ places base w n
-glyph_start base w n d h = rw (drop_of_length-le d h) (append_nil (places base w n))
+glyph_start base w n d h = rw (drop_of_length-le d h) (append-nil (places base w n))
 
 pub glyph_end : (base i m : ℕ) (d t : List ℕ) → i ≤ 0 → places base i m ++ drop i d ≡ t → d ≡ t
 unfolding places

@@ -1,7 +1,7 @@
 -- The state after a whole input holds what is kept of the input's two lines (`whole`).
 use Prim.Native.Nat.{ℕ, ◌<◌, ◌≤◌, ◌+◌, min}
 use mathlib.Core.Path.{◌≡◌, refl, sym, ◌∙◌}
-use mathlib.Core.List.{List, [], ◌∷◌, ◌++◌, append_nil, append_assoc}
+use mathlib.Core.List.{List, [], ◌∷◌, ◌++◌, append-nil, append_assoc}
 use mathlib.Core.Bool.{Bool, true, false, cond}
 use native.Mathlib.Omega.{arith}
 use native.Mathlib.Numerals.{add-one}
@@ -65,12 +65,12 @@ record Ends (r : Lines) (x y : List ℕ) : Type 0 where
 more1 : (t : Bool) (f g : Line) (x y : List ℕ) (b : ℕ) (i : List ℕ) → Holds f x → Holds g y
     → Ends (fed (at f (pushed g b) 1) i) x ((y ++ (b ∷ [])) ++ line_of i)
     → Ends (fed (cond t (at f g 2) (at f (pushed g b) 1)) i) x (y ++ cond t [] (b ∷ line_of i))
-more1 true f g x y b i h k e = rw (feed2 f g i, append_nil y) (record { one = h; two = k })
+more1 true f g x y b i h k e = rw (feed2 f g i, append-nil y) (record { one = h; two = k })
 more1 false f g x y b i h k e = rw append_assoc at e
 
 feed1 : (f g : Line) (x y : List ℕ) (i : List ℕ) → Holds f x → Holds g y → Ends (fed (at f g 1) i) x (y ++ line_of i)
 unfolding fed stepped line_of
-feed1 f g x y [] h k = rw (append_nil y) (record { one = h; two = k })
+feed1 f g x y [] h k = rw (append-nil y) (record { one = h; two = k })
 feed1 f g x y (b ∷ i) h k = more1 (eqb b 10) f g x y b i h k (feed1 f (pushed g b) x (y ++ (b ∷ [])) i h (push_holds b k))
 
 -- in the first
@@ -78,12 +78,12 @@ more0 : (t : Bool) (f g : Line) (x : List ℕ) (b : ℕ) (i : List ℕ) → Hold
     → Ends (fed (at f g 1) i) x (line_of i)
     → Ends (fed (at (pushed f b) g 0) i) ((x ++ (b ∷ [])) ++ line_of i) (line_of (rest_of i))
     → Ends (fed (cond t (at f g 1) (at (pushed f b) g 0)) i) (x ++ cond t [] (b ∷ line_of i)) (line_of (cond t i (rest_of i)))
-more0 true f g x b i h k d e = rw (append_nil x) d
+more0 true f g x b i h k d e = rw (append-nil x) d
 more0 false f g x b i h k d e = rw append_assoc at e
 
 feed0 : (f g : Line) (x : List ℕ) (i : List ℕ) → Holds f x → Holds g [] → Ends (fed (at f g 0) i) (x ++ line_of i) (line_of (rest_of i))
 unfolding fed stepped line_of rest_of
-feed0 f g x [] h k = rw (append_nil x) (record { one = h; two = k })
+feed0 f g x [] h k = rw (append-nil x) (record { one = h; two = k })
 feed0 f g x (b ∷ i) h k =
     more0 (eqb b 10) f g x b i h k (feed1 f g x [] i h k) (feed0 (pushed f b) g (x ++ (b ∷ [])) i (push_holds b h) k)
 

@@ -6,14 +6,14 @@ ghost use Rattle.text.specs.Input.{started, pushed, stepped, fed, Gathering};
 
 use crate::output::put_byte;
 
-#[derive(Drop)]
+#[derive(Clone, Copy)]
 pub struct Line {
     pub bytes: [u8; 70],
     pub size: usize,
 }
 
 // The two lines so far, and how many newlines have passed, at most 2.
-#[derive(Drop)]
+#[derive(Clone, Copy)]
 pub struct Lines {
     pub first: Line,
     pub second: Line,
@@ -104,7 +104,7 @@ impl Lines {
 
 // How many bytes a line has so far, with those that its buffer has no room for; the index in the
 // piece that comes next; and whether a newline ended the line.
-#[derive(Drop)]
+#[derive(Clone, Copy)]
 pub struct Gathered {
     pub size: usize,
     pub next: usize,

@@ -2,7 +2,7 @@
 use Prim.Native.Nat.{ℕ, zero, suc, ◌<◌}
 use mathlib.Core.Path.{◌≡◌, refl, ap, sym, ◌∙◌}
 use mathlib.Core.List.{List, [], ◌∷◌}
-use mathlib.Core.Bool.{Bool, cond, true, false, not, ◌&&◌, ◌||◌, and-false, or_false}
+use mathlib.Core.Bool.{Bool, cond, true, false, not, ◌&&◌, ◌||◌, and-false, or-false}
 use native.Mathlib.Omega.{arith}
 use borrow.Author.Tests.{leb-true, ne_eqb, lt-ltb}
 use lib.Dec.{eqb, leb, ltb}
@@ -40,13 +40,13 @@ column (c ∷ cs) a (b ∷ bs) h (suc (suc i)) k = column cs (is_blank b) bs (co
 
 -- what the classes of the designator ask, by themselves
 fits_f : (a : Bool) (b : ℕ) → fits 102 a b ≡ (is_blank b && a || not a && is_digit b)
-fits_f a b = simp (and-false, or_false)
+fits_f a b = simp (and-false, or-false)
 
 fits_L : (a : Bool) (b : ℕ) → fits 76 a b ≡ (is_blank b && a || not a && is_letter b)
-fits_L a b = simp (and-false, or_false)
+fits_L a b = simp (and-false, or-false)
 
 fits_l : (a : Bool) (b : ℕ) → fits 108 a b ≡ (is_blank b || not a && is_letter b)
-fits_l a b = simp (and-false, or_false)
+fits_l a b = simp (and-false, or-false)
 
 -- after a byte that is no blank, the second of two alternatives
 second : (blank a other : Bool) → a ≡ false → (blank && a || not a && other) ≡ true → other ≡ true

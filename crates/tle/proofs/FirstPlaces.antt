@@ -2,7 +2,7 @@
 use Prim.Native.Nat.{ℕ}
 use mathlib.Core.Path.{◌≡◌, ap, ◌∙◌}
 use mathlib.Core.List.{List, ◌∷◌, ◌++◌}
-use mathlib.Core.Bool.{Bool, true, false, and-false, or_false}
+use mathlib.Core.Bool.{Bool, true, false, and-false, or-false}
 use native.Mathlib.Omega.{arith}
 use borrow.Author.Tests.{eq-eqb}
 use lib.ListN.{length}
@@ -16,7 +16,7 @@ use Rattle.tle.specs.declared.Refusal.TheVariants.{Column}
 use Rattle.tle.specs.declared.Verdict.TheVariants as verdict
 
 pub fits_N : (a : Bool) (b : ℕ) → fits 78 a b ≡ opens_number b
-fits_N a b = simp (and-false, or_false)
+fits_N a b = simp (and-false, or-false)
 
 module _ (b : ℕ) (rest : List ℕ) (long : length rest ≡ 66) (o : opens_number b ≡ false) where
   stops1 : agreed layout1 true (bytes "1 " ++ (b ∷ rest)) ≡ 2

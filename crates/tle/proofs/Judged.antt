@@ -3,7 +3,7 @@ use mathlib.Core.Path.{◌≡◌, refl, sym, ◌∙◌}
 use mathlib.Core.Bool.{Bool, true, false, not}
 use Prim.Native.Nat.{ℕ, ◌+◌}
 use native.Mathlib.Omega.{arith}
-use borrow.Author.Tests.{eqb-true, not_true, not_false}
+use borrow.Author.Tests.{eqb-true, not-true, not-false}
 use lib.Dec.{eqb, ltb}
 use lib.ListN.{length, get_or}
 use mathlib.Core.List.{List}
@@ -59,7 +59,7 @@ goes_on first second e = rw e
 
 -- a test that a call made
 pub yes : {r test : Bool} → r ≡ test → not r ≡ false → test ≡ true
-yes {r = r} e h = sym e ∙ not_false r h
+yes {r = r} e h = sym e ∙ not-false r h
 
 pub no : {r test : Bool} → r ≡ test → not r ≡ true → test ≡ false
-no {r = r} e h = sym e ∙ not_true r h
+no {r = r} e h = sym e ∙ not-true r h

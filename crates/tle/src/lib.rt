@@ -1,4 +1,6 @@
 // Two-line element sets: the record, which records are legal, and reading.
+#![tactic(auto)]
+
 
 ghost use Rattle.std.specs.Prelude.{◌≡◌};
 ghost use Rattle.instant.specs.Calendar.{epoch_of};
@@ -13,7 +15,7 @@ mod reader;
 pub use limits::{in_form, legal};
 pub use reader::{read_form, read_meaning};
 
-#[derive(Drop)]
+#[derive(Clone, Copy)]
 pub enum Class {
     Unclassified,
     Classified,
@@ -49,14 +51,14 @@ impl Class {
 
 // The international designator: eight blanks, or launch year and number (five digits) and three
 // places for the piece, letters first, then blanks, each as its byte.
-#[derive(Drop)]
+#[derive(Clone, Copy)]
 pub enum Designator {
     Blank,
     Piece { launch: u64, a: u8, b: u8, c: u8 },
 }
 
 // A field with an exponent: mantissa * 10 ^ (exponent - 5). A zero mantissa has exponent 0.
-#[derive(Drop)]
+#[derive(Clone, Copy)]
 pub struct Scaled {
     pub mantissa: i64,
     pub exponent: i64,
@@ -65,7 +67,7 @@ pub struct Scaled {
 // Each field is a whole number in its last decimal place: angles in 0.0001 degree, eccentricity in
 // 10 ^ -7, motion in 10 ^ -8 revolution a day, ndot in 10 ^ -8. The year is whole, 1957 to 2056, and
 // the day counts 10 ^ -8 of a day; January 1, 0h, is 100000000.
-#[derive(Drop)]
+#[derive(Clone, Copy)]
 pub struct Record {
     pub number: u64,
     pub class: Class,
@@ -88,7 +90,7 @@ pub struct Record {
 
 // The fields of a record, held to no range, and whether an accepted form yields them. What takes a record
 // does not take them; read_meaning, which judges them, makes the record. Only read_form and `of` make them.
-#[derive(Drop)]
+#[derive(Clone, Copy)]
 pub struct Fields(Record, bool);
 
 impl Fields {
@@ -116,14 +118,14 @@ pub fn epoch(r: Record) -> Epoch
 }
 
 // The two lines of a set.
-#[derive(Drop)]
+#[derive(Clone, Copy)]
 pub enum Line {
     One,
     Two,
 }
 
 // The fields that have a range, in column order.
-#[derive(Drop)]
+#[derive(Clone, Copy)]
 pub enum Field {
     Day,
     Inclination,
@@ -135,7 +137,7 @@ pub enum Field {
 
 // Why two lines are refused: document 01's refusals 1 to 6, each with what comes back with it. Fields
 // that no accepted form yields are refused with 16; no two lines are.
-#[derive(Drop)]
+#[derive(Clone, Copy)]
 pub enum Refusal {
     Length(Line),
     Start(Line),
@@ -147,14 +149,14 @@ pub enum Refusal {
 }
 
 // What judging the columns of a line, or of two, finds.
-#[derive(Drop)]
+#[derive(Clone, Copy)]
 pub enum Verdict {
     Lawful,
     Refused(Refusal),
 }
 
 // What judging the form of two lines gives: their fields, or a refusal from 1 to 5.
-#[derive(Drop)]
+#[derive(Clone, Copy)]
 pub enum Form {
     Fields(Fields),
     Refused(Refusal),
@@ -174,7 +176,7 @@ impl Form {
 
 // What judging the meaning of fields gives: the record, whose fields are in their ranges, or refusal
 // 16 or 6. With the refusals of their form, what reading two lines gives.
-#[derive(Drop)]
+#[derive(Clone, Copy)]
 pub enum Reading {
     Record(Record),
     Refused(Refusal),

@@ -2,7 +2,7 @@
 use Prim.Native.Nat.{ℕ, zero, suc, ◌+◌, ◌/◌, ◌%◌, ◌^◌, ◌<◌}
 use mathlib.Core.Path.{◌≡◌, refl, ap, sym, ◌∙◌}
 use mathlib.Core.List.{List, [], ◌∷◌, ◌++◌}
-use mathlib.Core.Bool.{Bool, true, false, ◌&&◌, ◌||◌, not, and-false, or_false, or_true, or_comm}
+use mathlib.Core.Bool.{Bool, true, false, ◌&&◌, ◌||◌, not, and-false, or-false, or-true, or_comm}
 use native.Mathlib.Omega.{arith}
 use borrow.Author.Tests.{eqb-true, eq-eqb, ne_eqb, le-leb, leb-true}
 use lib.Dec.{eqb, leb, ltb}
@@ -71,22 +71,22 @@ point a = refl then end
 
 -- what a class asks, by itself
 pub fits_D : (a : Bool) (b : ℕ) → fits 68 a b ≡ is_digit b
-fits_D a b = simp (and-false, or_false)
+fits_D a b = simp (and-false, or-false)
 
 fits_R : (a : Bool) (b : ℕ) → fits 82 a b ≡ (is_blank b || is_digit b)
-fits_R a b = simp (and-false, or_false)
+fits_R a b = simp (and-false, or-false)
 
 fits_r : (a : Bool) (b : ℕ) → fits 114 a b ≡ (is_digit b || is_blank b && a)
-fits_r a b = simp (and-false, or_false)
+fits_r a b = simp (and-false, or-false)
 
 fits_f : (b : ℕ) → fits 102 false b ≡ is_digit b
-fits_f b = simp (and-false, or_false)
+fits_f b = simp (and-false, or-false)
 
 fits_L : (b : ℕ) → fits 76 false b ≡ is_letter b
-fits_L b = simp (and-false, or_false)
+fits_L b = simp (and-false, or-false)
 
 fits_l : (a : Bool) (b : ℕ) → fits 108 a b ≡ (is_blank b || not a && is_letter b)
-fits_l a b = simp (and-false, or_false)
+fits_l a b = simp (and-false, or-false)
 
 -- the places of a number: digits, or blanks where the number is 0
 is_digit_lem : (d : ℕ) → d < 10 → is_digit (48 + d) ≡ true
@@ -112,7 +112,7 @@ blank_place false n e = rw (e, ne_eqb (48 + n % 10) 32 (λ h. omega arith))
 first_fits : (t : Bool) (n : ℕ) (a : Bool) → eqb n 0 ≡ t → fits 82 a (place 32 n) ≡ true
 unfolding place
 first_fits true n a e = fits_R a (place 32 n) ∙ rw e
-first_fits false n a e = fits_R a (place 32 n) ∙ rw (e, is_digit_lem (n % 10) (omega arith)) (or_true (eqb (48 + n % 10) 32))
+first_fits false n a e = fits_R a (place 32 n) ∙ rw (e, is_digit_lem (n % 10) (omega arith)) (or-true (eqb (48 + n % 10) 32))
 
 later_fits : (t : Bool) (n : ℕ) → eqb n 0 ≡ t → fits 114 (eqb (n / 10) 0) (place 32 n) ≡ true
 unfolding place
@@ -187,7 +187,7 @@ letter_keeps c = one (fits_letter c)
 
 -- the designator: five digits, a letter, and letters or blanks
 first_digit : (n : ℕ) (a : Bool) → fits 82 a (place 48 n) ≡ true
-first_digit n a = fits_R a (place 48 n) ∙ rw (is_place n) (or_true (is_blank (place 48 n)))
+first_digit n a = fits_R a (place 48 n) ∙ rw (is_place n) (or-true (is_blank (place 48 n)))
 
 next_digit : (m n : ℕ) → fits 102 (is_blank (place 48 m)) (place 48 n) ≡ true
 next_digit m n = rw (not_blank m) (fits_f (place 48 n) ∙ is_place n)
@@ -204,7 +204,7 @@ second_fits a b h g = rw (letter_no_blank a h) (fits_l false b ∙ or_comm (is_b
 third_fits : (t : Bool) (b c : ℕ) → is_blank c ≡ t → is_letter c && is_letter b || is_blank c ≡ true → fits 108 (is_blank b) c ≡ true
 third_fits true b c e h = fits_l (is_blank b) c ∙ rw e
 third_fits false b c e h =
-    let l = both (is_letter c) (is_letter b) (sym (or_false (is_letter c && is_letter b)) ∙ (rw e at h)) in
+    let l = both (is_letter c) (is_letter b) (sym (or-false (is_letter c && is_letter b)) ∙ (rw e at h)) in
     fits_l (is_blank b) c ∙ rw (e, letter_no_blank b l.1, l.0)
 
 pub designator_keeps : (d : Designator) → designator_fits d ≡ true → Field (bytes "RffffLll") (designator d)

@@ -1,6 +1,6 @@
 -- One turn of the loop of `put`.
 use mathlib.Core.Path.{◌≡◌, sym, ◌∙◌}
-use mathlib.Core.List.{List, ◌∷◌, ◌++◌, append_nil}
+use mathlib.Core.List.{List, ◌∷◌, ◌++◌, append-nil}
 use Prim.Native.Nat.{ℕ, zero, suc, ◌<◌, ◌≤◌, ◌-◌, ◌/◌}
 use native.Mathlib.Omega.{arith}
 use lib.ListN.{length, drop, set, length-set, drop_of_length-le}
@@ -8,7 +8,7 @@ use lib.Seq.{drop-cons, append_snoc, get_or-set_same, drop-set-lt}
 use Rattle.tle_writer.specs.Field.{place, lead}
 
 pub start : (z w n : ℕ) (out : List ℕ) → length out ≡ w → lead z w n ≡ lead z w n ++ drop w out
-start z w n out e = rw (drop_of_length-le out {i = w} (omega arith)) (sym (append_nil (lead z w n)))
+start z w n out e = rw (drop_of_length-le out {i = w} (omega arith)) (sym (append-nil (lead z w n)))
 
 at_set : (j p : ℕ) (out : List ℕ) → j < length out → drop j (set out j p) ≡ p ∷ drop (suc j) out
 at_set j p out h =

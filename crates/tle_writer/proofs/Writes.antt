@@ -1,7 +1,7 @@
 -- A line closed by its checksum, and the answers of writing.
 use Prim.Native.Nat.{ℕ, ◌+◌, ◌%◌, ◌<◌, ◌≤◌}
 use mathlib.Core.Path.{◌≡◌, refl, ap, ◌∙◌}
-use mathlib.Core.List.{List, ◌++◌, append_nil}
+use mathlib.Core.List.{List, ◌++◌, append-nil}
 use mathlib.Core.Bool.{true, false}
 use native.Mathlib.Omega.{arith}
 use borrow.Author.Tests.{le-leb, lt-leb}
@@ -79,4 +79,4 @@ module _ (r : Record) (which : Line) (out m : List ℕ) (e : m ≡ written_over 
   front_long = ap length front ∙ length_line which r
 
   pub exactly : length out ≡ 69 → m ≡ line_of which r
-  exactly h = room ∙ rw (drop_of_length-le out {i = 69} (omega arith)) (append_nil (line_of which r))
+  exactly h = room ∙ rw (drop_of_length-le out {i = 69} (omega arith)) (append-nil (line_of which r))

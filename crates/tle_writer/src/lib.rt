@@ -1,5 +1,7 @@
 // Writing two-line element sets (document 01, "The two lines" and "Refusal numbers"). A line is built by
 // value, a field at a time, and then copied to the front of the lent room.
+#![tactic(auto)]
+
 
 ghost use Rattle.std.specs.Prelude.{◌≡◌, ◌++◌, ◌≤◌, length, drop};
 ghost use Rattle.tle_writer.specs.Write.{number_of, writing_of, written_over, Handed};
@@ -12,7 +14,7 @@ mod fields;
 mod lines;
 
 // What writing a line gives.
-#[derive(Drop)]
+#[derive(Clone, Copy)]
 pub enum Writing {
     Written,
     // 16: the record is outside the layout or the ranges.

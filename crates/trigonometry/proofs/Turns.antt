@@ -39,6 +39,8 @@ mod_mul a c b =
 -- ---- the two roundings are of the same fraction
 rem_units : (x : Float) (n : ℕ) → HasValue x false n (2 ^ 50) → rem binary64 x (fin false 884279719003555 (negsuc 46)) ≡ round binary64 false (n % turn) (2 ^ 50)
 unfolding rem
+rem_units nan n v = elim v [ ]
+rem_units (inf _) n v = elim v [ ]
 rem_units (fin s m e) n v =
     let a = m * up e * 2 ^ 47 in
     let b = 884279719003555 * 1 * down e in
@@ -53,6 +55,8 @@ rem_units (fin s m e) n v =
 
 over_units : (y : Float) (r : ℕ) → HasValue y false r 1 → div binary64 y (fin false 1 (pos 50)) ≡ round binary64 false r (2 ^ 50)
 unfolding div
+over_units nan r v = elim v [ ]
+over_units (inf _) r v = elim v [ ]
 over_units (fin true m e) r v = absurd (true≢false v.0)
 over_units (fin false m e) r v =
     round_same binary64 false (m * up e * 1) (1 * 2 ^ 50 * down e) r (2 ^ 50) (mul-pos (pow_pos 50) (down_pos e)) (pow_pos 50)

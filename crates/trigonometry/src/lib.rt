@@ -1,4 +1,6 @@
 // Sine and cosine: the argument brought within a quarter turn of zero, and a Taylor polynomial.
+#![tactic(auto)]
+
 ghost use Rattle.std.specs.Prelude.{◌≡◌, false, ◌*◌, ◌%◌, ◌^◌, ◌<◌};
 ghost use Rattle.std.specs.Float.Ieee.{lt};
 ghost use Rattle.floats.specs.Notation.{two_pi};
@@ -6,7 +8,7 @@ ghost use Rattle.trigonometry.specs.Trig.{turned, wrapped, folded, sin_poly, cos
 
 use floats::{HALF_PI, PI, TWO_PI};
 
-#[derive(Drop)]
+#[derive(Clone, Copy)]
 pub struct SinCos {
     pub sin: f64,
     pub cos: f64,

@@ -1,5 +1,7 @@
 // The gravity constants of 002's getgravconst at WGS-72, and what sgp4init and sgp4 compute of them
 // alone. 002 computes each anew at every call; here each is the number that comes out, proved equal.
+#![tactic(auto)]
+
 ghost use Rattle.std.specs.Prelude.{◌≡◌};
 ghost use Rattle.wgs72.specs.Getgravconst as G;
 ghost use Rattle.wgs72.specs.Computed as C;

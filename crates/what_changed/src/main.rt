@@ -1,5 +1,7 @@
 // Prints what changed from the roster in the file that the first argument names to the one in the second's
 // (document 02, wish 7), or `refused 22` and which of the two is no roster.
+#![tactic(auto)]
+
 use compare::{Compared, Which, compare};
 use files::read_argument;
 use roster_calls::fill_row;

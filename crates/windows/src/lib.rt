@@ -1,5 +1,7 @@
 // Windows above a station: the runs of visible samples that cannot be made longer (document 02, wish 10).
 // The samples are put to the satellite as one list; crate runs has what windows are.
+#![tactic(auto)]
+
 ghost use Rattle.std.specs.Prelude.{◌≡◌, cond, ◌+◌, ◌*◌, ◌/◌, ◌≤◌, ◌<◌, min, length};
 ghost use Rattle.std.proofs.Math.IntN.{sub_ℕ};
 ghost use Rattle.windows.specs.Windows as W;
@@ -12,7 +14,7 @@ use opening::opening::Satellite;
 use requests::request_list;
 
 // A whole number of seconds.
-#[derive(Drop)]
+#[derive(Clone, Copy)]
 pub struct Seconds(pub u64);
 
 // Whether a row is answered and its position, at that instant, stands above the station.
@@ -27,7 +29,7 @@ fn sees(station: [f64; 3], t: u64, refusal: u8, x: f64, y: f64, z: f64) -> bool
 
 // The run of visible samples that is open, if one is: the instants of its first sample and of its last
 // so far.
-#[derive(Drop)]
+#[derive(Clone, Copy)]
 struct Track {
     on: bool,
     first: u64,
@@ -147,7 +149,7 @@ fn fill_times(epoch: u64, start: u64, step: u64, samples: usize, times: &mut [i6
 }
 
 // How many windows there are, with the satellite to be handed to the next.
-#[derive(Drop)]
+#[derive(Clone, Copy)]
 struct Looked {
     windows: usize,
     strides: Strides,
@@ -259,7 +261,7 @@ fn near_epoch(epoch: u64) -> u64
 
 // The refusal number (0 when answered), how many windows there are, and the strides of all samples,
 // with the satellite to be handed to the next.
-#[derive(Drop)]
+#[derive(Clone, Copy)]
 pub struct WindowsAnswer {
     pub refusal: u8,
     pub windows: usize,

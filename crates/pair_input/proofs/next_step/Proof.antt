@@ -1,7 +1,7 @@
 use mathlib.Core.Path.{refl, sym, ◌∙◌}
 use mathlib.Core.Bool.{false≢true}
 use borrow.Author.Rules.{rules}
-use borrow.Author.Tests.{not_true, not_false}
+use borrow.Author.Tests.{not-true, not-false}
 use Rattle.pair_input.proofs.next_step.Statement.{statement}
 use Rattle.pair_input.proofs.next_step.Tie as tie
 
@@ -15,7 +15,7 @@ returns c =
       next = n.next-line.result;
       reads = n.next-line.ensures;
       left = refl;
-      takes = λ e. absurd (false≢true (sym (not_true _ i.if1.true) ∙ e));
+      takes = λ e. absurd (false≢true (sym (not-true _ i.if1.true) ∙ e));
       ends = λ e. (refl, f.finish.ensures);
     }
 
@@ -30,7 +30,7 @@ returns-2 c =
       reads = n.next-line.ensures;
       left = refl;
       takes = λ e. t.take_next.ensures;
-      ends = λ e. absurd (false≢true (sym e ∙ not_false _ i.if1.false));
+      ends = λ e. absurd (false≢true (sym e ∙ not-false _ i.if1.false));
     }
 
 pub next-step-spec : {M : Type 1} → statement M

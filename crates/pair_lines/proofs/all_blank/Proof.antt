@@ -1,5 +1,5 @@
 use borrow.Author.Rules.{rules}
-use borrow.Author.Tests.{not_true, not_false}
+use borrow.Author.Tests.{not-true, not-false}
 use native.Mathlib.Omega.{arith}
 use mathlib.Core.Path.{◌≡◌, refl, sym, ◌∙◌}
 use Prim.Native.Nat.{◌≤◌, ◌-◌}
@@ -22,13 +22,13 @@ returns : tie.Need-returns invariant-loop decreases-loop
 returns c =
     let l = c.before.before.before.loop in
     let s = c.before.before.before.before.args.line.now in
-    sym (found s l.i (omega arith) (not_true _ c.if1.true)) ∙ l.invariant.1
+    sym (found s l.i (omega arith) (not-true _ c.if1.true)) ∙ l.invariant.1
 
 loop-again : tie.Need-loop-preserved invariant-loop decreases-loop
 loop-again c =
     let l = c.before.before.before.loop in
     let s = c.before.before.before.before.args.line.now in
-    (search rules, sym (passed s l.i (omega arith) (not_false _ c.if1.false)) ∙ l.invariant.1)
+    (search rules, sym (passed s l.i (omega arith) (not-false _ c.if1.false)) ∙ l.invariant.1)
 
 returns-2 : tie.Need-returns-2 invariant-loop decreases-loop
 returns-2 c =

@@ -8,14 +8,14 @@ use elementary::{atan2, sin_cos};
 use instant::Minutes;
 use satellite::LunarSolar;
 
-#[derive(Drop)]
+#[derive(Clone, Copy)]
 pub struct PerturbedTwo {
     pub first: Perturbed,
     pub second: Perturbed,
 }
 
 // What is applied to a time's elements, with the sine and the cosine of their inclination.
-#[derive(Drop)]
+#[derive(Clone, Copy)]
 pub struct Applying {
     pub k: Changes,
     pub x: Perturbed,

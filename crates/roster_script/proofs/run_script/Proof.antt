@@ -1,5 +1,5 @@
 use borrow.Author.Rules.{rules}
-use borrow.Author.Tests.{not_true, not_false, leb-true}
+use borrow.Author.Tests.{not-true, not-false, leb-true}
 use mathlib.Core.Path.{sym, ◌∙◌}
 use Rattle.roster_script.proofs.Posts.{short_text, short_room, done}
 use Rattle.roster_script.proofs.run_script.Statement.{statement}
@@ -9,21 +9,21 @@ returns : tie.Need-returns
 returns c =
     let f = c.before in
     let a = f.before.before.before.before.before.before.args in
-    short_text a.roster.now a.row.now a.calls.now a.text.now a.answers.now (sym f.fits2.ensures ∙ not_true f.fits2.result c.if1.true)
+    short_text a.roster.now a.row.now a.calls.now a.text.now a.answers.now (sym f.fits2.ensures ∙ not-true f.fits2.result c.if1.true)
 
 returns-2 : tie.Need-returns-2
 returns-2 c =
     let e = c.before in
     let f = e.before in
     let a = f.before.before.before.before.before.before.args in
-    short_room a.roster.now a.row.now a.calls.now a.text.now a.answers.now (sym f.fits2.ensures ∙ not_false f.fits2.result e.if1.false) c.if2.true
+    short_room a.roster.now a.row.now a.calls.now a.text.now a.answers.now (sym f.fits2.ensures ∙ not-false f.fits2.result e.if1.false) c.if2.true
 
 run-all-requires : tie.Need-run-all-requires
 run-all-requires c κs =
     let r = c.before.before.before in
     let e = r.before in
     let f = e.before in
-    (leb-true _ _ (sym f.fits2.ensures ∙ not_false f.fits2.result e.if1.false), r.if2.false)
+    (leb-true _ _ (sym f.fits2.ensures ∙ not-false f.fits2.result e.if1.false), r.if2.false)
 
 returns-3 : tie.Need-returns-3
 returns-3 c =
@@ -33,7 +33,7 @@ returns-3 c =
     let f = e.before in
     let a = f.before.before.before.before.before.before.args in
     done a.roster.now a.row.now a.calls.now a.text.now a.answers.now x.run-all.new.0 x.run-all.new.1.0 x.run-all.new.1.1.1.1.0
-    (sym f.fits2.ensures ∙ not_false f.fits2.result e.if1.false) r.if2.false x.run-all.ensures
+    (sym f.fits2.ensures ∙ not-false f.fits2.result e.if1.false) r.if2.false x.run-all.ensures
 
 pub run-script-spec : {M : Type 1} → statement M
 run-script-spec =

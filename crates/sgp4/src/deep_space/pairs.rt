@@ -15,7 +15,7 @@ use state::secular::{angles, mean, no_motion, outside, secular};
 use wgs72::xke;
 
 // What is known of a time once dspace is done: the time, and its mean elements.
-#[derive(Drop)]
+#[derive(Clone, Copy)]
 pub struct Drift {
     pub t: Minutes,
     pub inclm: f64,
@@ -24,7 +24,7 @@ pub struct Drift {
 }
 
 // pow(xke / nm, x2o3) at two times.
-#[derive(Drop)]
+#[derive(Clone, Copy)]
 pub struct Axes {
     pub first: f64,
     pub second: f64,

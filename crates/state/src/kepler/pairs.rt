@@ -7,7 +7,7 @@ ghost use Rattle.state.specs.Two as W;
 use crate::kepler::{begun, corrected, unsettled};
 use crate::parts::{Anomaly, Long};
 
-#[derive(Drop)]
+#[derive(Clone, Copy)]
 pub struct Anomalies {
     pub first: Anomaly,
     pub second: Anomaly,

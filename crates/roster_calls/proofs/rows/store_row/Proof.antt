@@ -1,7 +1,7 @@
 use borrow.Author.Rules.{rules}
 use native.Mathlib.Omega.{arith}
 use mathlib.Core.Path.{◌≡◌, refl, sym, ◌∙◌}
-use mathlib.Core.List.{List, ◌++◌, append_nil}
+use mathlib.Core.List.{List, ◌++◌, append-nil}
 use Prim.Native.Nat.{ℕ, ◌≤◌, ◌-◌}
 use lib.ListN.{length, take, drop, length-set, drop_of_length-le}
 use lib.Seq.{take_all}
@@ -16,7 +16,7 @@ abbrev decreases-loop : tie.decreases-loop
 decreases-loop row₀ instants i₀ row i = 64 - i
 
 all : (l d o : List ℕ) (i : ℕ) → length l ≡ 64 → length d ≡ 64 → 64 ≤ i → o ≡ take i l ++ drop i d → o ≡ l
-all l d o i e f h p = p ∙ rw (take_all i l (omega arith), drop_of_length-le d {i = i} (omega arith)) (append_nil l)
+all l d o i e f h p = p ∙ rw (take_all i l (omega arith), drop_of_length-le d {i = i} (omega arith)) (append-nil l)
 
 loop-holds : tie.Need-loop-init invariant-loop decreases-loop
 loop-holds c = (search rules, search rules, c.requires, refl)

@@ -1,0 +1,14 @@
+use borrow.Author.Rules.{rules}
+use native.Mathlib.Omega.{arith}
+use mathlib.Core.Path.{◌≡◌}
+use Prim.Native.Nat.{◌≤◌, ◌<◌, ◌+◌, ◌-◌, ◌%◌}
+use lib.ListN.{length, drop}
+use Rattle.columns.specs.Sum.{sum}
+use Rattle.columns.proofs.Sums.{sum_more, sum_done}
+use Rattle.columns.proofs.digits.long_checksum.Given as goal
+
+abbrev pub invariant-loop-i : goal.invariant-loop-i
+invariant-loop-i l = (l.i ≤ length l.s) × (l.t < 10) × ((l.t + sum (drop l.i l.s)) % 10 ≡ sum l.s % 10)
+
+abbrev pub decreases-loop-i : goal.decreases-loop-i
+decreases-loop-i l = length l.s - l.i

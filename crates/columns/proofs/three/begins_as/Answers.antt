@@ -1,0 +1,5 @@
+use borrow.Author.Rules.{rules}
+use Rattle.columns.proofs.three.begins_as.Goals as goal
+
+pub returns : goal.returns
+returns c = rw c.opens_number.ensures

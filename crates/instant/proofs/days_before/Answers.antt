@@ -1,0 +1,7 @@
+use mathlib.Core.Path.{sym}
+use borrow.Author.Rules.{rules}
+use Rattle.instant.proofs.Calendar.{days_before_lem}
+use Rattle.instant.proofs.days_before.Goals as goal
+
+pub returns : goal.returns
+returns c = sym (days_before_lem c.args.years)

@@ -1,0 +1,14 @@
+use borrow.Author.Rules.{rules}
+use Rattle.text.proofs.Feeding.{turn, end}
+use Rattle.text.specs.Input.{fed}
+use lib.ListN.{length, drop}
+use Prim.Native.Nat.{◌≤◌, ◌-◌}
+use mathlib.Core.Path.{◌≡◌, refl, sym, ◌∙◌}
+use native.Mathlib.Omega.{arith}
+use Rattle.text.proofs.input.Lines.feed.Given as goal
+
+abbrev pub invariant-loop-i : goal.invariant-loop-i
+invariant-loop-i l = (l.i ≤ length l.piece) × (fed l.lines (drop l.i l.piece) ≡ fed l.initial.lines l.piece)
+
+abbrev pub decreases-loop-i : goal.decreases-loop-i
+decreases-loop-i l = length l.piece - l.i
