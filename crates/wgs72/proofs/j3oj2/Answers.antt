@@ -2,9 +2,8 @@ use mathlib.Core.Path.{refl}
 use lib.Ieee.{round, units, odd, size, span, climb, of_bits, neg, div, mul, add, sub, sum}
 use lib.Count.{count_trailing_zeros}
 use Rattle.wgs72.specs.Getgravconst.{j3oj2}
-use Rattle.wgs72.proofs.j3oj2.Statement.{statement}
-use Rattle.wgs72.proofs.j3oj2.Tie as tie
+use Rattle.wgs72.proofs.j3oj2.Goals as goal
 
-pub j3oj2-spec : {M : Type 1} → statement M
+pub returns : goal.returns
 unfolding j3oj2 round units odd size span climb count_trailing_zeros of_bits neg div mul add sub sum
-j3oj2-spec = tie.close (tie.spec (λ c. refl))
+returns c = refl
