@@ -1,11 +1,8 @@
-use Prim.Native.Nat.{ℕ, ◌+◌, ◌-◌, ◌*◌, ◌/◌, ◌≤◌}
-use mathlib.Core.Path.{◌≡◌, refl, sym, ap, ◌∙◌}
-use native.Mathlib.Omega.{arith}
-use borrow.Author.Tests.{ltb-true, ltb-false}
-use lib.Dec.{leb, ltb}
+use Prim.Native.Nat.{◌-◌, ◌*◌, ◌/◌, ◌≤◌}
+use mathlib.Core.Path.{◌≡◌}
+use lib.Dec.{leb}
 use lib.ListN.{length, drop}
 use Rattle.roster_script.specs.Script.{needed}
-use Rattle.roster_script.proofs.Scripts.{fits_not, fits_more, fits_all}
 use Rattle.roster_script.proofs.fits.Given as goal
 
 -- The invariant: what is left of the script, in what is left of the room.

@@ -1,8 +1,6 @@
-use Prim.Native.Nat.{◌-◌, ◌/◌}
 use native.Mathlib.Omega.{arith}
-use lib.ListN.{length}
 use Rattle.roster_script.specs.Total.{lent}
-use Rattle.roster_script.proofs.Scripts.{Along, along_none, lines_there, along_more, along_done}
+use Rattle.roster_script.proofs.Scripts.{along_none, lines_there, along_more, along_done}
 use Rattle.roster_script.proofs.run_all.Goals as goal
 
 pub loop-j-init : goal.loop-j-init

@@ -1,8 +1,7 @@
 use Prim.Native.Nat.{◌-◌, ◌/◌}
-use native.Mathlib.Omega.{arith}
 use lib.ListN.{length}
 use Rattle.roster_script.specs.Total.{lent}
-use Rattle.roster_script.proofs.Scripts.{Along, along_none, lines_there, along_more, along_done}
+use Rattle.roster_script.proofs.Scripts.{Along}
 use Rattle.roster_script.proofs.run_all.Given as goal
 
 -- The invariant: what is left of the script, from the memory and the room as they are, is the whole.

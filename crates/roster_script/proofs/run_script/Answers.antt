@@ -1,5 +1,4 @@
-use borrow.Author.Rules.{rules}
-use borrow.Author.Tests.{not-true, not-false, leb-true}
+use borrow.Author.Tests.{leb-true}
 use mathlib.Core.Path.{sym, ◌∙◌}
 use Rattle.roster_script.proofs.Posts.{short_text, short_room, done}
 use Rattle.roster_script.proofs.run_script.Goals as goal
