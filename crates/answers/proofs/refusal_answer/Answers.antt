@@ -34,5 +34,4 @@ returns-in-Range c =
 
 pub returns-in-NoForm : goal.returns-in-NoForm
 unfolding refusal_answer in_bits
-returns-in-NoForm c =
-    c.answer-in-NoForm.ensures ∙ sym (ap (λ z. refusal_answer (in_bits z)) c.in-NoForm.is)
+returns-in-NoForm c = c.answer-in-NoForm.ensures ∙ sym (ap (λ z. refusal_answer (in_bits z)) c.in-NoForm.is)
