@@ -1,5 +1,5 @@
 -- What each refusal says (`Refusals` of specs/Claims.antt).
-use Prim.Native.Nat.{ℕ, ◌<◌, ◌≤◌}
+use Prim.Native.Nat.{ℕ, ◌<◌}
 use mathlib.Core.Path.{◌≡◌, refl, sym, ap, ◌∙◌, subst}
 use mathlib.Core.List.{List}
 use mathlib.Core.Bool.{Bool, true, false, cond, ◌||◌}
@@ -10,7 +10,7 @@ use borrow.Author.Tests.{ltb-true, ltb-false, le-ltb, eq-eqb}
 use Rattle.award.specs.declared.Answer.{Answer}
 use Rattle.award.specs.declared.Answer.TheVariants as answer
 use Rattle.award.specs.Plan.{first, among, offer_count, offer_at, unsound, missing, repeated, clashing, total_of, refusing, most, number, answer_of}
-use Rattle.award.specs.Claims.{FirstFault, NoFault, Few, AllSound, AllThere, NoneTwice, NoClash, Refusals}
+use Rattle.award.specs.Claims.{FirstFault, Few, AllSound, AllThere, NoneTwice, NoClash, Refusals}
 use Rattle.award.proofs.First.{none, not_among, is_first}
 
 -- two answers of different numbers

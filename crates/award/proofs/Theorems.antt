@@ -12,7 +12,7 @@ use Rattle.award.specs.declared.Offer.{Offer}
 use Rattle.award.specs.declared.Answer.{Answer}
 use Rattle.award.specs.declared.Answer.TheVariants as answer
 use Rattle.award.specs.Plan.{first, among, offer_count, offer_at, entry_at, named, most_cents, second_micros, sound, unsound, missing, names, repeated, before, clash, clash_with, clashing, sum_below, bid_at, total_of, refusing, most, answer_of}
-use Rattle.award.specs.Acceptable.{Sound, Before, Clash, Acceptable, Holds}
+use Rattle.award.specs.Acceptable.{Sound, Clash, Acceptable, Holds}
 use Rattle.award.specs.Claims.{Told, AcceptedExactly, ClashIsSymmetric, OneSlotAtOnce, SumsFit}
 use Rattle.award.proofs.First.{none, all, not_among}
 use Rattle.award.proofs.Stages.{accepted}

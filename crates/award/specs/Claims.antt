@@ -1,6 +1,6 @@
 -- What follows from the definitions for every plan: accepted exactly if acceptable, what each refusal says, that it does not matter which of two offers
 -- is named first, that an accepted plan gives no antenna two slots at once, and that no sum of bids overflows. Proved in proofs/Theorems.antt and proofs/Refused.antt.
-use Rattle.std.specs.Prelude.{ℕ, ◌+◌, ◌<◌, ◌≤◌, ◌≡◌, Bool, true, false, List, length}
+use Rattle.std.specs.Prelude.{ℕ, ◌<◌, ◌≤◌, ◌≡◌, Bool, true, false, List, length}
 use Rattle.award.specs.declared.Offer.{Offer}
 use Rattle.award.specs.declared.Answer.TheVariants as answer
 use Rattle.award.specs.Plan.{most, offer_count, offer_at, entry_at, named, sound, unsound, missing, repeated, clash, clashing, sum_below, bid_at, total_of, answer_of}

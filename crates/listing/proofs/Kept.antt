@@ -8,7 +8,7 @@ use lib.Dec.{leb}
 use lib.ListN.{length, take, length-take}
 use lib.Seq.{take_all}
 use borrow.Author.Tests.{leb-true, leb-false, ne_eqb}
-use Rattle.text.specs.Input.{line1, line2, kept, started, fed}
+use Rattle.text.specs.Input.{line1, line2, kept}
 use Rattle.text.proofs.Whole.{whole}
 use Rattle.columns.specs.Layout.{layout1, layout2}
 use Rattle.tle.specs.Read.{verdict_of, then, pair_of, fields_of, formed, form_of, ranged, read_of}

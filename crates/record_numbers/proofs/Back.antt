@@ -7,10 +7,10 @@ use native.Mathlib.Omega.{arith}
 use borrow.Author.Tests.{lt-ltb, le-ltb, ltb-true, ltb-false, eqb-true, ne_eqb}
 use lib.Dec.{eqb, ltb}
 use lib.IntN.{ℤ, pos, negsuc}
-use lib.ListN.{length, take, drop, get_or}
+use lib.ListN.{length, take, drop}
 use lib.Seq.{drop-cons}
 use Rattle.columns.specs.Layout.{is_letter, is_blank}
-use Rattle.tle.specs.Legal.{legal, designator_fits}
+use Rattle.tle.specs.Legal.{designator_fits}
 use Rattle.tle.specs.Read.{class_of, meaning_of}
 use Rattle.tle.specs.declared.Class.{Class}
 use Rattle.tle.specs.declared.Class.TheVariants.{Unclassified, Classified, Secret}

@@ -14,7 +14,6 @@ use Rattle.roster.specs.Roster.{bytes_of, same, pairs_in, roster_of}
 use Rattle.roster.specs.Row.{row_of, agreed, roster_with}
 use Rattle.roster.specs.Scan.{start, tallied, tallies, resumed, row_in, scanned_of, scan_of, judged_of}
 use Rattle.roster.specs.declared.scan.Tally.{Tally}
-use Rattle.roster.specs.declared.scan.Scanned.{Scanned}
 use Rattle.roster.specs.declared.scan.Scanned.TheVariants as scanned
 use Rattle.roster.specs.declared.scan.Contents.{Contents}
 use Rattle.roster.proofs.Sorted.{below}

@@ -2,24 +2,22 @@
 use Prim.Native.Nat.{ℕ, zero, suc, ◌+◌, ◌-◌, ◌*◌, ◌<◌, ◌≤◌}
 use mathlib.Core.Path.{◌≡◌, refl, ap, sym, ◌∙◌}
 use mathlib.Core.Bool.{Bool, true, false, cond}
-use mathlib.Core.List.{List, [], ◌∷◌, ◌++◌, append-nil, flat_map}
+use mathlib.Core.List.{List, [], ◌∷◌, ◌++◌, flat_map}
 use mathlib.Core.Option.{Option, none, some, some-injective, none-ne-some}
-use native.Mathlib.Numerals.{add-one}
 use native.Mathlib.Omega.{arith}
-use borrow.Author.Tests.{eq-eqb}
-use lib.ListN.{length, drop, set, get_elem?, replicate, length-append}
+use lib.ListN.{length, drop, get_elem?, replicate, length-append}
 use lib.Seq.{append_snoc, set_at}
 use Rattle.tle.specs.declared.Record.{Record}
 use Rattle.roster.specs.Packed.{packed}
 use Rattle.roster.specs.Records.{instant_of}
 use Rattle.roster.specs.Roster.{same, pairs_in, roster_of, is_none}
 use Rattle.roster.specs.Row.{instant_at, row_of, agreed, roster_with}
-use Rattle.roster.specs.Scan.{start, resumed, row_in, scanned_of}
-use Rattle.roster.specs.Claims.{RowsExactly, PlacesRead, RowsRead, RowsEnd}
+use Rattle.roster.specs.Scan.{start, scanned_of}
+use Rattle.roster.specs.Claims.{RowsExactly, RowsRead, RowsEnd}
 use Rattle.roster.proofs.Tests.{same_equal, same_refl}
 use Rattle.roster.proofs.Packing.{length_packed, one_more, place_of_lem}
-use Rattle.roster.proofs.Passes.{stored, stored_in, passing, At}
-use Rattle.roster.proofs.Decode.{pairs_sound, roster_sound, places_read}
+use Rattle.roster.proofs.Passes.{stored, passing, At}
+use Rattle.roster.proofs.Decode.{pairs_sound, places_read}
 
 -- ── what a pass stores ──
 

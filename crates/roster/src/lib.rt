@@ -3,7 +3,6 @@
 // row of 64 instants, one for each place (wish 8). Crate roster_calls has the calls that change both.
 #![tactic(auto)]
 
-
 ghost use Rattle.std.specs.Prelude.{◌≡◌};
 ghost use Rattle.roster.specs.Roster.{is_none};
 ghost use Rattle.roster.specs.Row.{roster_with};

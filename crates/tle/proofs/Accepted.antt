@@ -1,19 +1,19 @@
 -- The record of every pair of lines that reading accepts is legal; the epoch of a legal record is inside 1957-2056, and its date is the
 -- record's.
-use Prim.Native.Nat.{ℕ, zero, suc, ◌+◌, ◌*◌, ◌<◌, ◌≤◌, ◌^◌}
-use mathlib.Core.Path.{◌≡◌, refl, ap, sym, ◌∙◌}
+use Prim.Native.Nat.{ℕ, zero, suc, ◌+◌, ◌*◌, ◌<◌, ◌^◌}
+use mathlib.Core.Path.{◌≡◌, refl, ap}
 use mathlib.Core.List.{List}
-use mathlib.Core.Bool.{Bool, cond, true, false, not, ◌&&◌, ◌||◌}
+use mathlib.Core.Bool.{Bool, true, false, ◌&&◌}
 use native.Mathlib.Omega.{arith}
 use borrow.Author.Tests.{lt-ltb, le-leb, leb-true, leb-false}
 use lib.Dec.{eqb, leb, ltb}
-use lib.IntN.{nat_abs, pos}
+use lib.IntN.{nat_abs}
 use Rattle.instant.specs.Calendar.{day_in_range, year_in_range, epoch_of}
 use Rattle.instant.proofs.Theorems.{epochs_apart}
-use Rattle.columns.specs.Layout.{layout1, layout2}
+use Rattle.columns.specs.Layout.{layout1}
 use Rattle.tle.specs.Number.{field, minus, signed}
 use Rattle.tle.specs.Legal.{inclination_in_range, angle_in_range, motion_in_range, in_ranges, designator_fits, scaled_fits, in_layout, in_places, in_form, legal}
-use Rattle.tle.specs.Read.{unless, verdict_of, pair_of, number_at, year_of, minus_at, ndot_at, scaled_at, day_at, degrees_at, motion_at, fields_of, formed, form_of, ranges_of, ranged, read_of}
+use Rattle.tle.specs.Read.{unless, pair_of, number_at, year_of, minus_at, ndot_at, scaled_at, day_at, degrees_at, motion_at, fields_of, formed, form_of, ranges_of, ranged, read_of}
 use Rattle.tle.specs.Claims.{AcceptedAreLegal, EpochsInside, EpochsDated}
 use Rattle.tle.specs.declared.Record.{Record}
 use Rattle.tle.specs.declared.Line.TheVariants.{One}
@@ -22,8 +22,6 @@ use Rattle.tle.specs.declared.Refusal.{Refusal}
 use Rattle.tle.specs.declared.Refusal.TheVariants.{Range}
 use Rattle.tle.specs.declared.Verdict.{Verdict}
 use Rattle.tle.specs.declared.Verdict.TheVariants as verdict
-use Rattle.tle.specs.declared.Form.{Form}
-use Rattle.tle.specs.declared.Form.TheVariants as form
 use Rattle.tle.specs.declared.Reading.{Reading}
 use Rattle.tle.specs.declared.Reading.TheVariants as reading
 use Rattle.tle.proofs.Steps.{field_below}

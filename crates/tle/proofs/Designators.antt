@@ -1,18 +1,16 @@
 -- The designator in a lawful line 1 is legal.
 use Prim.Native.Nat.{ℕ, zero, suc, ◌<◌}
-use mathlib.Core.Path.{◌≡◌, refl, ap, sym, ◌∙◌}
+use mathlib.Core.Path.{◌≡◌, refl, sym, ◌∙◌}
 use mathlib.Core.List.{List, [], ◌∷◌}
-use mathlib.Core.Bool.{Bool, cond, true, false, not, ◌&&◌, ◌||◌, and-false, or-false}
+use mathlib.Core.Bool.{Bool, true, false, not, ◌&&◌, ◌||◌, and-false, or-false}
 use native.Mathlib.Omega.{arith}
 use borrow.Author.Tests.{leb-true, ne_eqb, lt-ltb}
-use lib.Dec.{eqb, leb, ltb}
+use lib.Dec.{leb}
 use lib.ListN.{length, get_or}
 use Rattle.columns.specs.Layout.{is_blank, is_digit, is_letter, fits, agreed, layout1}
 use Rattle.tle.specs.Number.{field}
 use Rattle.tle.specs.Read.{designator_at}
 use Rattle.tle.specs.Legal.{piece_fits, designator_fits}
-use Rattle.tle.specs.declared.Designator.{Designator}
-use Rattle.tle.specs.declared.Designator.TheVariants.{Blank, Piece}
 use Rattle.tle.proofs.Steps.{field_below}
 
 -- the byte before the column after the first i is a blank

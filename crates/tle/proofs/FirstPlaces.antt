@@ -1,16 +1,13 @@
 -- What class N asks, and that every byte which it does not take is refusal 3 at column 3.
 use Prim.Native.Nat.{ℕ}
-use mathlib.Core.Path.{◌≡◌, ap, ◌∙◌}
+use mathlib.Core.Path.{◌≡◌, ◌∙◌}
 use mathlib.Core.List.{List, ◌∷◌, ◌++◌}
 use mathlib.Core.Bool.{Bool, true, false, and-false, or-false}
-use native.Mathlib.Omega.{arith}
-use borrow.Author.Tests.{eq-eqb}
 use lib.ListN.{length}
 use Rattle.text.specs.Output.{bytes}
 use Rattle.columns.specs.Layout.{opens_number, fits, agreed, layout1, layout2}
-use Rattle.tle.specs.Read.{then, verdict_of, pair_of, form_of, read_of}
+use Rattle.tle.specs.Read.{verdict_of, pair_of, form_of, read_of}
 use Rattle.tle.specs.Claims.{OtherFirstPlaces}
-use Rattle.tle.specs.declared.Line.{Line}
 use Rattle.tle.specs.declared.Line.TheVariants.{One, Two}
 use Rattle.tle.specs.declared.Refusal.TheVariants.{Column}
 use Rattle.tle.specs.declared.Verdict.TheVariants as verdict

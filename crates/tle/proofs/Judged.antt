@@ -1,9 +1,9 @@
 -- What a lawful verdict says of the tests that led to it.
 use mathlib.Core.Path.{◌≡◌, refl, sym, ◌∙◌}
-use mathlib.Core.Bool.{Bool, true, false, not}
+use mathlib.Core.Bool.{Bool, true, false}
 use Prim.Native.Nat.{ℕ, ◌+◌}
 use native.Mathlib.Omega.{arith}
-use borrow.Author.Tests.{eqb-true, not-true, not-false}
+use borrow.Author.Tests.{eqb-true}
 use lib.Dec.{eqb, ltb}
 use lib.ListN.{length, get_or}
 use mathlib.Core.List.{List}
@@ -58,8 +58,8 @@ pub goes_on : (first second : Verdict) → first ≡ Lawful → then first secon
 goes_on first second e = rw e
 
 -- a test that a call made
-pub yes : {r test : Bool} → r ≡ test → not r ≡ false → test ≡ true
-yes {r = r} e h = sym e ∙ not-false r h
+pub yes : {r test : Bool} → r ≡ test → r ≡ true → test ≡ true
+yes {r = r} e h = sym e ∙ h
 
-pub no : {r test : Bool} → r ≡ test → not r ≡ true → test ≡ false
-no {r = r} e h = sym e ∙ not-true r h
+pub no : {r test : Bool} → r ≡ test → r ≡ false → test ≡ false
+no {r = r} e h = sym e ∙ h

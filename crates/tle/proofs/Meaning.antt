@@ -1,5 +1,5 @@
 -- Form and meaning, one after the other, are reading as a whole; the first gives refusals 1 to 5, and after it the second never gives 16.
-use Prim.Native.Nat.{ℕ, ◌+◌, ◌≤◌}
+use Prim.Native.Nat.{ℕ, ◌≤◌}
 use mathlib.Core.Path.{◌≡◌, refl, ap, sym, subst, ◌∙◌}
 use mathlib.Core.List.{List}
 use mathlib.Core.Bool.{Bool, true, false}
@@ -18,7 +18,7 @@ use Rattle.tle.specs.declared.Fields.{Fields}
 use Rattle.tle.specs.declared.Line.{Line}
 use Rattle.tle.specs.declared.Line.TheVariants.{One, Two}
 use Rattle.tle.specs.declared.Refusal.{Refusal}
-use Rattle.tle.specs.declared.Refusal.TheVariants.{Numbers, NoForm}
+use Rattle.tle.specs.declared.Refusal.TheVariants.{NoForm}
 use Rattle.tle.specs.declared.Verdict.{Verdict}
 use Rattle.tle.specs.declared.Verdict.TheVariants as verdict
 use Rattle.tle.specs.declared.Form.{Form}

@@ -1,7 +1,6 @@
 // Two-line element sets: the record, which records are legal, and reading.
 #![tactic(auto)]
 
-
 ghost use Rattle.std.specs.Prelude.{◌≡◌};
 ghost use Rattle.instant.specs.Calendar.{epoch_of};
 ghost use Rattle.tle.specs.Read.{class_of, letter, given, refusal_in};

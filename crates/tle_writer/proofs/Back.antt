@@ -15,7 +15,7 @@ use Rattle.tle.specs.declared.Record.{Record}
 use Rattle.tle.specs.declared.Designator.{Designator}
 use Rattle.tle.specs.declared.Designator.TheVariants.{Blank, Piece}
 use Rattle.tle.specs.declared.Line.TheVariants.{One, Two}
-use Rattle.tle_writer.specs.Field.{place, lead, digits, number_places, right, day_places, fraction, scaled, designator}
+use Rattle.tle_writer.specs.Field.{place, lead, digits, number_places, right, day_places, fraction, scaled}
 use Rattle.tle_writer.specs.Lines.{join, body_of, closed_of, line_of}
 use Rattle.tle_writer.proofs.Bodies.{zero_of, launch_of, first_of, second_of, third_of, places}
 use Rattle.tle_writer.proofs.Facts.{Held, both}

@@ -1,14 +1,14 @@
 -- Catalogue numbers and their five places: each undoes the other.
-use Prim.Native.Nat.{ℕ, ◌+◌, ◌*◌, ◌-◌, ◌/◌, ◌%◌, ◌<◌, ◌≤◌, ◌^◌}
+use Prim.Native.Nat.{ℕ, ◌+◌, ◌*◌, ◌/◌, ◌%◌, ◌<◌, ◌≤◌, ◌^◌}
 use mathlib.Core.Path.{◌≡◌, refl, ap, sym, ◌∙◌}
 use mathlib.Core.List.{List, [], ◌∷◌}
-use mathlib.Core.Bool.{Bool, true, false, cond, ◌&&◌}
+use mathlib.Core.Bool.{Bool, true, false}
 use native.Mathlib.Omega.{arith}
 use borrow.Author.Tests.{eqb-true, leb-true}
 use lib.Dec.{eqb, leb}
-use lib.ListN.{length, get_or}
+use lib.ListN.{get_or}
 use Rattle.text.specs.Output.{bytes}
-use Rattle.columns.specs.Layout.{is_blank, is_digit, opens_number, agreed, Lawful}
+use Rattle.columns.specs.Layout.{is_blank, is_digit, opens_number, agreed}
 use Rattle.columns.specs.Sum.{digit_of}
 use Rattle.tle.specs.Number.{value_on}
 use Rattle.columns.specs.FirstPlace.{first_places, first_of}

@@ -1,9 +1,9 @@
 -- The way back: the two lines of a record in form are lawful, no column of them has a fault, and their form yields its fields. Reading
 -- those of a legal record gives that record.
-use Prim.Native.Nat.{ℕ, ◌+◌, ◌%◌}
+use Prim.Native.Nat.{ℕ, ◌%◌}
 use mathlib.Core.Path.{◌≡◌, refl, ap, sym, ◌∙◌}
-use mathlib.Core.List.{List, [], ◌∷◌, ◌++◌}
-use mathlib.Core.Bool.{Bool, true}
+use mathlib.Core.List.{List, []}
+use mathlib.Core.Bool.{true}
 use native.Mathlib.Omega.{arith}
 use borrow.Author.Tests.{eq-eqb}
 use lib.Dec.{eqb}
@@ -14,7 +14,7 @@ use Rattle.columns.specs.Layout.{layout1, layout2, agreed}
 use Rattle.tle.specs.Claims.{layout_of}
 use Rattle.columns.specs.Sum.{digit_of, sum}
 use Rattle.tle.specs.Legal.{in_layout, in_places, in_form, in_ranges, legal}
-use Rattle.tle.specs.Read.{unless, verdict_of, number_at, pair_of, form_of, ranges_of, given, meaning_of, ranged, read_of}
+use Rattle.tle.specs.Read.{verdict_of, number_at, pair_of, form_of, ranges_of, given, meaning_of, ranged, read_of}
 use Rattle.tle.specs.declared.Record.{Record}
 use Rattle.tle.specs.declared.Line.{Line}
 use Rattle.tle.specs.declared.Line.TheVariants.{One, Two}
@@ -26,7 +26,7 @@ use Rattle.tle.proofs.Meaning.{forms_yield}
 use Rattle.tle.proofs.Accepted.{within}
 use Rattle.tle.proofs.Accepted as T
 use Rattle.tle_writer.specs.Field.{place, lead, digits}
-use Rattle.tle_writer.specs.Lines.{join, pieces1, pieces2, body_of, closed_of, line_of}
+use Rattle.tle_writer.specs.Lines.{join, body_of, closed_of, line_of}
 use Rattle.tle_writer.specs.Claims.{WrittenAreLawful, FormsExactly, MeaningExactly, ReturnTrip}
 use Rattle.tle_writer.proofs.Bodies.{places}
 use Rattle.tle_writer.proofs.Writes.{length_line}

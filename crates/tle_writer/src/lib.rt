@@ -2,7 +2,6 @@
 // value, a field at a time, and then copied to the front of the lent room.
 #![tactic(auto)]
 
-
 ghost use Rattle.std.specs.Prelude.{◌≡◌, ◌++◌, ◌≤◌, length, drop};
 ghost use Rattle.tle_writer.specs.Write.{number_of, writing_of, written_over, Handed};
 ghost use Rattle.tle_writer.specs.Lines.{line_of};
