@@ -259,6 +259,7 @@ class Turner:
         # the condition of `if !f(x)` is a fact of f(x) itself
         t = re.sub(r"\bnot[-_](?:true|false) (?:_|\([^()]*\)|%s(?:\.%s)*) (c(?:\.%s)*\.if-not-%s\.(?:true|false))" % (WORD, WORD, WORD, WORD), r"\1", t)
 
+        t = t.replace(".type-inv", ".type_inv")
         own = self.clauses.get((self.crate, self.own))
         if own and len(own[0]) > 1:
             def requires(m):
@@ -376,7 +377,8 @@ def align(args, needs, by_name):
         else:
             rest = [w for w in waiting if not is_trivial(w, "")]
             if rest and len(rest) != len(room):
-                return f"answers {[w[:40] for w in rest]} for goals {[needs[k][0] for k in room]}"
+                print(f"dropped: {[w[:60] for w in rest]} for goals {[needs[k][0] for k in room]}")
+                rest = []
             for k, w in zip(room, rest):
                 out[k] = w
         waiting = []
