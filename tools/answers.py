@@ -226,7 +226,7 @@ class Turner:
         # so is a step
         places = WORD + r"(?:\.before)*"
         while True:
-            for m in reversed(list(re.finditer(r"let (%s) = ((%s)\.(%s)) in\s*" % (WORD, places, WORD), t))):
+            for m in reversed(list(re.finditer(r"let (%s) = ((%s)\.(%s)(?:\.ensures)?) in\s*" % (WORD, places, WORD), t))):
                 name, rest = m.group(1), t[m.end():]
                 if self.step_of(m.group(4)) and not re.search(r"(?<![.\w'-])%s(?![\w'.-])" % re.escape(name), rest):
                     t = t[:m.start()] + re.sub(r"(?<![.\w'-])%s(?=\.)" % re.escape(name), lambda _: m.group(2), rest)
@@ -273,33 +273,39 @@ class Turner:
 
 
 def tupled(body, names):
-    """A body that is, after its lets, a tuple of as many parts as clauses, as a record; else None."""
-    m = re.match(r"((?:.|\n)*\bin\s+)?(\((?:.|\n)*\))\s*$", body)
-    if not m:
-        return None
-    head, t = m.group(1) or "", m.group(2)
-    if split_args(t) != [t]:
-        return None
-    parts, depth, last = [], 0, 1
-    for k, ch in enumerate(t):
-        if ch in "({[":
-            depth += 1
-        elif ch in ")}]":
-            depth -= 1
-            if depth == 0 and k < len(t) - 1:
+    """A body that proves all clauses as nested pairs, as a record of them by name."""
+    at = 0
+    while True:
+        m = re.compile(r"\s*let\b").match(body, at)
+        if not m:
+            break
+        depth, k = 0, m.end()
+        while not (depth == 0 and re.compile(r"\bin\b(?![\w'-])").match(body, k) and not body[k - 1] in "-_"):
+            if re.compile(r"\blet\b").match(body, k):
+                depth += 1
+            elif re.compile(r"\bin\b(?![\w'-])").match(body, k) and not body[k - 1] in "-_":
+                depth -= 1
+            k += 1
+            if k >= len(body):
                 return None
-        elif ch == "," and depth == 1:
-            parts.append(t[last:k].strip())
-            last = k + 1
-    parts.append(t[last:-1].strip())
+        at = k + 2
+    head, t = body[:at], body[at:].strip()
+    parts = tuple_parts(t) or [t]
     while len(parts) < len(names):
         inner = tuple_parts(parts[-1])
         if inner is None:
-            return None
+            break
         parts = parts[:-1] + inner
     if len(parts) > len(names):
         rest = parts[len(names) - 1:]
         parts = parts[:len(names) - 1] + ["(" + ", ".join(rest) + ")"]
+    if head and not head[-1].isspace():
+        head += "\n    "
+    if len(parts) < len(names):
+        left = names[len(parts) - 1:]
+        head += f"let rest = {parts[-1]} in\n    "
+        n = len(left)
+        parts = parts[:-1] + ["rest" + ".1" * k + (".0" if k < n - 1 else "") for k in range(n)]
     return head + "record { " + "; ".join(f"{n} = {p}" for n, p in zip(names, parts)) + " }"
 
 
@@ -318,7 +324,7 @@ def tuple_parts(t):
     if not parts:
         return None
     parts.append(t[last:-1].strip())
-    return parts
+    return [x for x in parts if x]
 
 
 def binder_sub(body, table):
