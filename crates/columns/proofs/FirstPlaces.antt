@@ -34,8 +34,8 @@ module _ (b : ℕ) (h : b < 256) where
   pub below_A : b < 65 → digit_of b ≡ first_of b
   below_A l = rw (lt-ltb b 65 l) at ranges
 
-  pub A-to-H : 65 ≤ b → b < 73 → b - 65 + 10 ≡ first_of b
-  A-to-H g l = rw (le-ltb b 65 g, lt-ltb b 73 l) at ranges
+  pub a_to_h : 65 ≤ b → b < 73 → b - 65 + 10 ≡ first_of b
+  a_to_h g l = rw (le-ltb b 65 g, lt-ltb b 73 l) at ranges
 
   pub at_I : b ≡ 73 → 0 ≡ first_of b
   unfolding first_of position

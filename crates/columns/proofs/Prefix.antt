@@ -1,5 +1,5 @@
 -- The column after those that agree is the first at which no lawful line agrees so far.
-use Prim.Native.Nat.{ℕ, suc, ◌+◌, ◌-◌}
+use Prim.Native.Nat.{ℕ, suc, ◌-◌}
 use mathlib.Core.Path.{◌≡◌, refl, ap, sym, ◌∙◌}
 use mathlib.Core.List.{List, [], ◌∷◌}
 use mathlib.Core.Bool.{Bool, cond, true, false, ◌&&◌}
@@ -7,7 +7,7 @@ use native.Mathlib.Omega.{arith}
 use lib.Dec.{T, eqb}
 use lib.ListN.{length, take}
 use Rattle.columns.specs.Layout.{fits, agreed, layout1, layout2}
-use Rattle.columns.specs.Claims.{FirstFault, FirstOf, FirstFaults}
+use Rattle.columns.specs.Claims.{FirstOf, FirstFaults}
 
 -- a byte that may stand in a column
 unfoldable fill : ℕ → Bool → ℕ

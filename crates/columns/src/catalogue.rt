@@ -6,6 +6,7 @@ ghost use Rattle.columns.specs.FirstPlace.{first_of};
 use super::digits::digit;
 
 // A digit stands for itself, a letter for 10 to 33, and any other byte for 0.
+#[tactic(auto, using(crate::proofs::FirstPlaces::a_to_h))]
 pub fn first_place(b: u8) -> u64
     ensures { (result ≡ first_of b) × (result ≤ 33) }
 {

@@ -1,8 +1,7 @@
 -- The turns of the loop of `month_of`. Assumes nothing.
-use mathlib.Core.Path.{◌≡◌, refl, sym, ap, ◌∙◌}
+use mathlib.Core.Path.{◌≡◌, refl}
 use Prim.Native.Nat.{ℕ, zero, suc, ◌+◌, ◌-◌, ◌≤◌, ◌<◌}
 use native.Mathlib.Omega.{arith}
-use native.Mathlib.Nat.{suc-sub-suc, sub-zero}
 use borrow.Author.Tests.{le-leb, lt-leb}
 use Rattle.date_text.specs.Date.{month_length, month_from}
 

@@ -7,7 +7,7 @@ use mathlib.Core.Bool.{Bool, true, false, cond}
 use lib.Dec.{eqb, leb}
 use lib.ListN.{length, length-append}
 use borrow.Author.Tests.{leb-true, leb-false, ltb-true}
-use Rattle.instant.specs.Calendar.{days_in, days_before, calendar_end, in_calendar, together, date_of}
+use Rattle.instant.specs.Calendar.{days_in, calendar_end, in_calendar, together, date_of}
 use Rattle.instant.specs.declared.Dated.{Dated}
 use Rattle.instant.specs.declared.Dated.TheVariants as dated
 use Rattle.instant.proofs.Theorems.{Apart, apart_together}

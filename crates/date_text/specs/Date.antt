@@ -2,7 +2,6 @@
 use Rattle.std.specs.Prelude.{ℕ, zero, suc, ◌+◌, ◌-◌, ◌/◌, ◌%◌, cond, ◌||◌, List, [], ◌∷◌, ◌++◌, leb, eqb}
 use Rattle.text.specs.Output.{bytes, places}
 use Rattle.instant.specs.Calendar.{days_in, date_of}
-use Rattle.instant.specs.declared.Date.{Date}
 use Rattle.instant.specs.declared.Dated.{Dated}
 use Rattle.instant.specs.declared.Dated.TheVariants as dated
 use Rattle.date_text.specs.declared.MonthDay.{MonthDay}

@@ -1,24 +1,24 @@
 -- The claims of specs/Claims: how long a line can be.
-use Prim.Native.Nat.{ℕ, ◌+◌, ◌/◌, ◌%◌, ◌^◌, ◌≤◌}
+use Prim.Native.Nat.{ℕ, ◌/◌, ◌^◌, ◌≤◌}
 use native.Mathlib.Omega.{arith}
 use mathlib.Core.Bool.{Bool, true, false, cond, ◌&&◌}
-use mathlib.Core.List.{List, [], ◌∷◌, ◌++◌}
+use mathlib.Core.List.{List, ◌∷◌}
 use lib.Dec.{eqb, ltb}
 use lib.Ieee.{Float, lt}
 use lib.ListN.{length, length-append}
 use Rattle.floats.specs.Notation.{dec}
-use Rattle.text.specs.Output.{bytes, decimal, places}
+use Rattle.text.specs.Output.{bytes}
 use Rattle.text.proofs.Lengths.{decimal_within}
 use Rattle.decimals.specs.Fixed.{units_of, shown, units_text, signed_text, fixed_text}
 use Rattle.decimals.proofs.Spelled.{length_places}
-use Rattle.date_text.specs.Date.{month_of, day_text, time_text, date_text, instant_text}
+use Rattle.date_text.specs.Date.{day_text, time_text, date_text, instant_text}
 use Rattle.instant.specs.Calendar.{date_of}
 use Rattle.instant.specs.declared.Dated.{Dated}
 use Rattle.instant.specs.declared.Dated.TheVariants as dated
 use Rattle.instant.specs.declared.Moved.{Moved}
 use Rattle.instant.specs.declared.Moved.TheVariants as moved
 use Rattle.ephemeris_text.specs.declared.State.{State}
-use Rattle.ephemeris_text.specs.Rows.{cell, three_words, state_names, header_text, three_numbers, state_text, no_state, values_text, when_text, row_text}
+use Rattle.ephemeris_text.specs.Rows.{three_words, state_names, header_text, three_numbers, state_text, no_state, values_text, when_text, row_text}
 use Rattle.ephemeris_text.specs.Claims.{RowFits, HeaderFits}
 
 either : (b : Bool) (s t : List ℕ) (k : ℕ) → length s ≤ k → length t ≤ k → length (cond b s t) ≤ k

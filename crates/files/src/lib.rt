@@ -5,8 +5,13 @@
 
 ghost use Rattle.std.specs.Prelude.{◌≡◌, true, cond, ◌≤◌, eqb};
 ghost use Rattle.io.specs.Counts.{IsPrefixLen};
+ghost use Rattle.std.specs.Io.{ReadsAtMost};
 ghost use Rattle.files.specs.Folder.{folder_size};
 
+use std::env::{Env, FillError};
+use std::fs::{File, OpenOptions};
+use std::io::{Error, ErrorKind, Result, Write};
+use std::{fs, str, thread};
 use text::put_bytes;
 
 // What failed and the name of the file, as far as the text has room.
@@ -21,39 +26,57 @@ fn put_label(text: &mut [u8], what: &[u8], name: &[u8]) -> usize
     text.len()
 }
 
-fn fail(what: &[u8], name: &[u8]) {
+fn fail(rt: HostRuntime, what: &[u8], name: &[u8], error: &Error) {
     let mut text = [0u8; 4200];
     let n = put_label(&mut text, what, name);
-    os::fail(&text[..n]);
+    streams::fail(rt, &text[..n], error);
+}
+
+// A name as text: another names no file here.
+fn text_of(name: &[u8]) -> Result<&str> {
+    match str::from_utf8(name) {
+        Ok(text) => Ok(text),
+        Err(_) => Err(Error::from(ErrorKind::InvalidFilename)),
+    }
+}
+
+fn open_read(rt: HostRuntime, name: &[u8]) -> Result<File> {
+    File::open(&rt, text_of(name)?)
 }
 
 // Reads an open file to its end, or until the space is full, and closes it.
-fn read_opened(failed: &mut bool, name: &[u8], space: &mut [u8], fd: i32) -> usize
+fn read_opened(
+    rt: HostRuntime,
+    failed: &mut bool,
+    name: &[u8],
+    space: &mut [u8],
+    file: File,
+) -> usize
     ensures prefix_len { IsPrefixLen result space.new }
     ensures failed_after { failed.old ≡ true → (failed.new ≡ true) × (result ≡ 0) × (space.new ≡ space.old) }
 {
+    let mut file = file;
     let mut text = [0u8; 4200];
     let n = put_label(&mut text, b"cannot read ", name);
-    let size = streams::read_all_from(failed, space, fd, &text[..n]);
-    libc::close(fd);
-    size
+    streams::read_all_from(rt, failed, space, &mut file, &text[..n])
 }
 
 // Reads the file of this name to its end, or until the space is full.
-pub fn read_file(failed: &mut bool, name: &[u8], space: &mut [u8]) -> usize
+pub fn read_file(rt: HostRuntime, failed: &mut bool, name: &[u8], space: &mut [u8]) -> usize
     ensures prefix_len { IsPrefixLen result space.new }
     ensures failed_after { failed.old ≡ true → (failed.new ≡ true) × (result ≡ 0) × (space.new ≡ space.old) }
 {
     if *failed {
         return 0;
     }
-    let fd = os::open_read(name);
-    if fd < 0 {
-        fail(b"cannot open ", name);
-        *failed = true;
-        return 0;
+    match open_read(rt, name) {
+        Ok(file) => read_opened(rt, failed, name, space, file),
+        Err(error) => {
+            fail(rt, b"cannot open ", name, &error);
+            *failed = true;
+            0
+        }
     }
-    read_opened(failed, name, space, fd)
 }
 
 fn at_most(n: usize, space: &[u8]) -> usize
@@ -66,64 +89,110 @@ fn at_most(n: usize, space: &[u8]) -> usize
 }
 
 // The same, but a file that is not there has the first bytes of the space as it is, so many as `absent` says.
-pub fn read_file_or(failed: &mut bool, name: &[u8], space: &mut [u8], absent: usize) -> usize
+pub fn read_file_or(
+    rt: HostRuntime,
+    failed: &mut bool,
+    name: &[u8],
+    space: &mut [u8],
+    absent: usize,
+) -> usize
     ensures prefix_len { IsPrefixLen result space.new }
     ensures failed_after { failed.old ≡ true → (failed.new ≡ true) × (result ≡ 0) × (space.new ≡ space.old) }
 {
     if *failed {
         return 0;
     }
-    let fd = os::open_read(name);
-    if fd >= 0 {
-        return read_opened(failed, name, space, fd);
+    match open_read(rt, name) {
+        Ok(file) => read_opened(rt, failed, name, space, file),
+        Err(error) => {
+            if error.kind() == ErrorKind::NotFound {
+                return at_most(absent, space);
+            }
+            fail(rt, b"cannot open ", name, &error);
+            *failed = true;
+            0
+        }
     }
-    if os::errno() == libc::ENOENT {
-        return at_most(absent, space);
-    }
-    fail(b"cannot open ", name);
-    *failed = true;
-    0
 }
 
+// ---- The program's arguments.
+
+// How many there are, the program's name among them.
+pub fn argument_count(rt: HostRuntime) -> usize {
+    let mut byte = [0u8; 1];
+    for i in 0..usize::MAX {
+        if let Err(FillError::NotPresent) = rt.arg(i, &mut byte) {
+            return i;
+        }
+    }
+    usize::MAX
+}
+
+// Puts argument i at the front of the room: how many bytes it has. One that is not there is none that could
+// be asked for, and one that has no room is too long for a file's name.
+pub fn argument(rt: HostRuntime, i: usize, room: &mut [u8]) -> Result<usize>
+    ensures { ReadsAtMost result room.new }
+{
+    match rt.arg(i, room) {
+        Ok(size) => Ok(at_most(size, room)),
+        Err(FillError::NotPresent) => Err(Error::from_raw_os_error(EINVAL)),
+        Err(FillError::TooLong) => Err(Error::from_raw_os_error(ENAMETOOLONG)),
+    }
+}
+
+// The system's numbers of these errors.
+const EINVAL: i32 = 22;
+
+const ENAMETOOLONG: i32 = 36;
+
 // Reads the file that argument i names.
-pub fn read_argument(failed: &mut bool, i: usize, space: &mut [u8]) -> usize
+pub fn read_argument(rt: HostRuntime, failed: &mut bool, i: usize, space: &mut [u8]) -> usize
     ensures prefix_len { IsPrefixLen result space.new }
     ensures failed_after { failed.old ≡ true → (failed.new ≡ true) × (result ≡ 0) × (space.new ≡ space.old) }
 {
-    let mut name = io::buffer();
-    let size = os::arg(i, &mut name);
-    if os::errno() != 0 {
-        os::fail(b"cannot read the name of a file");
-        *failed = true;
-        return 0;
+    let mut name = [0u8; 4096];
+    match argument(rt, i, &mut name) {
+        Ok(size) => read_file(rt, failed, &name[..size], space),
+        Err(error) => {
+            streams::fail(rt, b"cannot read the name of a file", &error);
+            *failed = true;
+            0
+        }
     }
-    read_file(failed, &name[..size], space)
 }
 
 // ---- A file replaced whole.
 
+// Makes a file for writing; it must not be there.
+fn create(rt: HostRuntime, name: &[u8]) -> Result<File> {
+    OpenOptions::new()
+        .write(true)
+        .create_new(true)
+        .open(&rt, text_of(name)?)
+}
+
+// Writes all bytes to a file, and waits until its device has them.
+fn write_out(file: File, bytes: &[u8]) -> Result<()> {
+    let mut file = file;
+    file.write_all(bytes)?;
+    file.sync_all()
+}
+
 // Writes a new file, and waits until its device has it.
-fn write_new(name: &[u8], bytes: &[u8]) -> bool {
-    let fd = os::create(name);
-    if fd < 0 {
-        fail(b"cannot make ", name);
-        return false;
+fn write_new(rt: HostRuntime, name: &[u8], bytes: &[u8]) -> bool {
+    match create(rt, name) {
+        Ok(file) => match write_out(file, bytes) {
+            Ok(()) => true,
+            Err(error) => {
+                fail(rt, b"cannot write ", name, &error);
+                false
+            }
+        },
+        Err(error) => {
+            fail(rt, b"cannot make ", name, &error);
+            false
+        }
     }
-    if !io::write_all(fd, bytes) {
-        fail(b"cannot write ", name);
-        libc::close(fd);
-        return false;
-    }
-    if libc::fsync(fd) < 0 {
-        fail(b"cannot write ", name);
-        libc::close(fd);
-        return false;
-    }
-    if libc::close(fd) < 0 {
-        fail(b"cannot write ", name);
-        return false;
-    }
-    true
 }
 
 fn folder_after(size: usize, next: usize, b: u8) -> usize
@@ -150,32 +219,42 @@ pub fn folder_size(name: &[u8]) -> usize
 }
 
 // Waits until the device has a folder's names. A folder that cannot be waited for is none of ours.
-fn sync_folder(folder: &[u8]) -> bool {
-    let fd = os::open_read(folder);
-    if fd < 0 {
-        fail(b"cannot open ", folder);
-        return false;
+fn sync_folder(rt: HostRuntime, folder: &[u8]) -> bool {
+    match open_read(rt, folder) {
+        Ok(opened) => match opened.sync_all() {
+            Ok(()) => true,
+            Err(error) => {
+                fail(rt, b"cannot write ", folder, &error);
+                false
+            }
+        },
+        Err(error) => {
+            fail(rt, b"cannot open ", folder, &error);
+            false
+        }
     }
-    let done = libc::fsync(fd) >= 0;
-    if !done {
-        fail(b"cannot write ", folder);
-    }
-    libc::close(fd);
-    done
 }
 
-fn sync_name(name: &[u8]) -> bool {
+fn sync_name(rt: HostRuntime, name: &[u8]) -> bool {
     let n = folder_size(name);
     if n == 0 {
-        return sync_folder(b".");
+        return sync_folder(rt, b".");
     }
-    sync_folder(&name[..n])
+    sync_folder(rt, &name[..n])
+}
+
+fn unlink(rt: HostRuntime, name: &[u8]) -> Result<()> {
+    fs::remove_file(&rt, text_of(name)?)
+}
+
+fn rename(rt: HostRuntime, from: &[u8], to: &[u8]) -> Result<()> {
+    fs::rename(&rt, text_of(from)?, text_of(to)?)
 }
 
 // Puts a new file in the place of the file of this name: written beside it (NAME.new), then renamed, each
 // time waiting for the device. So whatever stops it, the name has the old bytes or the new ones, all of
 // them. Two at once must not: they lock the file first.
-pub fn replace_file(failed: &mut bool, name: &[u8], bytes: &[u8])
+pub fn replace_file(rt: HostRuntime, failed: &mut bool, name: &[u8], bytes: &[u8])
     ensures { failed.old ≡ true → failed.new ≡ true }
 {
     if *failed {
@@ -184,19 +263,19 @@ pub fn replace_file(failed: &mut bool, name: &[u8], bytes: &[u8])
     let mut beside = [0u8; 4200];
     let n = put_label(&mut beside, name, b".new");
     // what one that was stopped left behind
-    os::unlink(&beside[..n]);
-    if !write_new(&beside[..n], bytes) {
-        os::unlink(&beside[..n]);
+    let _ = unlink(rt, &beside[..n]);
+    if !write_new(rt, &beside[..n], bytes) {
+        let _ = unlink(rt, &beside[..n]);
         *failed = true;
         return;
     }
-    if os::rename(&beside[..n], name) < 0 {
-        fail(b"cannot replace ", name);
-        os::unlink(&beside[..n]);
+    if let Err(error) = rename(rt, &beside[..n], name) {
+        fail(rt, b"cannot replace ", name, &error);
+        let _ = unlink(rt, &beside[..n]);
         *failed = true;
         return;
     }
-    if !sync_name(name) {
+    if !sync_name(rt, name) {
         *failed = true;
     }
 }
@@ -204,34 +283,35 @@ pub fn replace_file(failed: &mut bool, name: &[u8], bytes: &[u8])
 // ---- One at a time.
 
 // Makes a file that nobody has, waiting a second or some while somebody has it: a proved loop has to end.
-fn make_alone(name: &[u8]) -> i32 {
+fn make_alone(rt: HostRuntime, name: &[u8]) -> Result<()> {
     let mut turns: u64 = 400000;
     while turns > 0 {
-        let fd = os::create(name);
-        if fd >= 0 {
-            return fd;
+        match create(rt, name) {
+            Ok(_) => return Ok(()),
+            Err(error) => {
+                if error.kind() != ErrorKind::AlreadyExists {
+                    return Err(error);
+                }
+            }
         }
-        if os::errno() != libc::EEXIST {
-            return fd;
-        }
-        libc::sched_yield();
+        thread::yield_now();
         turns -= 1;
     }
-    -1
+    Err(Error::from(ErrorKind::AlreadyExists))
 }
 
-fn tell_locked(lock: &[u8]) {
+fn tell_locked(rt: HostRuntime, lock: &[u8]) {
     let mut text = [0u8; 4400];
     let n = put_label(
         &mut text,
         lock,
         b" is there: another is at work on this file, or one was stopped at work; where none is, remove it\n",
     );
-    io::write_all(libc::STDERR_FILENO, &text[..n]);
+    streams::tell(rt, &text[..n]);
 }
 
 // Locks the file of this name, by making NAME.lock.
-pub fn lock_file(failed: &mut bool, name: &[u8])
+pub fn lock_file(rt: HostRuntime, failed: &mut bool, name: &[u8])
     ensures { failed.old ≡ true → failed.new ≡ true }
 {
     if *failed {
@@ -239,27 +319,24 @@ pub fn lock_file(failed: &mut bool, name: &[u8])
     }
     let mut lock = [0u8; 4200];
     let n = put_label(&mut lock, name, b".lock");
-    let fd = make_alone(&lock[..n]);
-    if fd >= 0 {
-        libc::close(fd);
-        return;
+    if let Err(error) = make_alone(rt, &lock[..n]) {
+        *failed = true;
+        if error.kind() == ErrorKind::AlreadyExists {
+            tell_locked(rt, &lock[..n]);
+            return;
+        }
+        fail(rt, b"cannot make ", &lock[..n], &error);
     }
-    *failed = true;
-    if os::errno() == libc::EEXIST {
-        tell_locked(&lock[..n]);
-        return;
-    }
-    fail(b"cannot make ", &lock[..n]);
 }
 
 // Removes the lock. One that locked a file does so whether or not something failed since.
-pub fn unlock_file(failed: &mut bool, name: &[u8])
+pub fn unlock_file(rt: HostRuntime, failed: &mut bool, name: &[u8])
     ensures { failed.old ≡ true → failed.new ≡ true }
 {
     let mut lock = [0u8; 4200];
     let n = put_label(&mut lock, name, b".lock");
-    if os::unlink(&lock[..n]) < 0 {
-        fail(b"cannot remove ", &lock[..n]);
+    if let Err(error) = unlink(rt, &lock[..n]) {
+        fail(rt, b"cannot remove ", &lock[..n], &error);
         *failed = true;
     }
 }

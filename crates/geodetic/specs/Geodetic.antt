@@ -1,6 +1,6 @@
 -- A station by geodetic latitude, longitude and height above the WGS-84 ellipsoid: its Earth-fixed position, and the directions east, north and up there.
 -- Definitions only. Up is the ellipsoid's normal, and not the direction of the position.
-use Rattle.std.specs.Prelude.{Bool, ◌&&◌, not, List, [], ◌∷◌, Float}
+use Rattle.std.specs.Prelude.{Bool, ◌&&◌, List, [], ◌∷◌, Float}
 use Rattle.std.specs.Float.Ieee.{neg, le}
 use Rattle.elementary.specs.Notation.{◌⊕◌, ◌⊖◌, ◌⊗◌, ◌⊘◌, dec}
 use Rattle.elementary.specs.Root.{sqrt_of}

@@ -1,20 +1,18 @@
 -- The difference of two instants. Assumes nothing.
-use mathlib.Core.Path.{◌≡◌, refl, sym, ap, ◌∙◌, subst}
+use mathlib.Core.Path.{◌≡◌, refl, sym, ap, ◌∙◌}
 use mathlib.Core.Bool.{Bool, true, false, cond, ◌&&◌}
-use Prim.Native.Nat.{ℕ, zero, suc, ◌+◌, ◌-◌, ◌≤◌, ◌<◌, ◌^◌}
+use Prim.Native.Nat.{ℕ, zero, suc, ◌+◌, ◌-◌, ◌<◌, ◌^◌}
 use native.Mathlib.Omega.{arith}
 use lib.IntN.{ℤ, pos, negsuc, ◌+ℤ◌, ◌-ℤ◌, +ℤ_comm, +ℤ-neg_ℤ_cancel, -ℤ-+ℤ_cancel}
 use lib.Dec.{leb, ltb}
 use mir.Syntax.{w64}
 use mir.Val.{SFits}
-use borrow.Author.Tests.{le-leb, ltb-true, ltb-false}
+use borrow.Author.Tests.{le-leb, ltb-false}
 use Rattle.instant.specs.Calendar.{in_calendar}
 use Rattle.instant.specs.Move.{landed, reached}
 use Rattle.instant.specs.Since.{since_of}
 use Rattle.instant.specs.declared.Microseconds.{Microseconds}
-use Rattle.instant.specs.declared.Elapsed.{Elapsed}
 use Rattle.instant.specs.declared.Elapsed.TheVariants as elapsed
-use Rattle.instant.specs.declared.Moved.{Moved}
 use Rattle.instant.specs.declared.Moved.TheVariants.{To, Outside}
 
 -- it is an i64

@@ -240,6 +240,7 @@ fn days_before(years: u64) -> u64
 }
 
 // The last day that an epoch of the year may have: the one place that says so.
+#[tactic(auto, using(crate::proofs::Calendar::last_day_leap, crate::proofs::Calendar::last_day_common))]
 fn last_day(year: u64) -> u64
     ensures { result ≡ last_day year }
 {

@@ -67,14 +67,20 @@ fn finished(size: usize, found: bool) -> Next
 
 // Reads on until a newline ends the line, which has `size` bytes so far. A proved loop has to end, and
 // nothing says that the input does. So it counts its turns down, from a number that no run uses up.
-fn read_on(failed: &mut bool, size: usize, buffer: &mut [u8], line: &mut [u8]) -> Next
+fn read_on(
+    rt: HostRuntime,
+    failed: &mut bool,
+    size: usize,
+    buffer: &mut [u8],
+    line: &mut [u8],
+) -> Next
     requires { failed.old ≡ false }
     ensures { Found failed.new size [] line.old buffer.new line.new result }
 {
     let mut size = size;
     let mut turns = u64::MAX;
     while turns > 0 {
-        let end = streams::read(failed, buffer);
+        let end = streams::read(rt, failed, buffer);
         if *failed {
             return finished(size, false);
         }
@@ -101,7 +107,13 @@ fn at_most(n: usize, most: usize) -> usize
 }
 
 // The next line, at the front of its room: what waits in the buffer, and what is read behind it.
-pub fn next_line(failed: &mut bool, input: Input, buffer: &mut [u8], line: &mut [u8]) -> Next
+pub fn next_line(
+    rt: HostRuntime,
+    failed: &mut bool,
+    input: Input,
+    buffer: &mut [u8],
+    line: &mut [u8],
+) -> Next
     ensures { Nexts failed.old input buffer.old line.old failed.new buffer.new line.new result }
 {
     if *failed {
@@ -116,7 +128,7 @@ pub fn next_line(failed: &mut bool, input: Input, buffer: &mut [u8], line: &mut 
     if g.ended {
         return ended(g.next, end, g.size);
     }
-    read_on(failed, g.size, buffer, line)
+    read_on(rt, failed, g.size, buffer, line)
 }
 
 // A line that its room does not hold counts as an empty one.

@@ -1,5 +1,5 @@
 -- The premises are met by some moves, and none of them can be left out: examples, each by computation. 315,532,800,000,000 microseconds are 3,652 days.
-use Rattle.std.specs.Prelude.{◌≡◌, refl, true, pos, negsuc}
+use Rattle.std.specs.Prelude.{◌≡◌, refl, pos, negsuc}
 use Rattle.instant.specs.Calendar.{in_calendar, calendar_end, days_before, days_in}
 use Rattle.instant.specs.Move.{span_limit, in_span, landed, reached, move_of}
 use Rattle.instant.specs.declared.Moved.TheVariants.{TooFar, Outside}

@@ -5,7 +5,7 @@ use lib.Dec.{ltb, leb}
 use lib.IntN.{nat_abs}
 use lib.Ieee.{Float, neg, round, units, odd, size, span, climb}
 use lib.Count.{count_trailing_zeros}
-use Rattle.elementary.specs.Notation.{◌⊗◌, ◌⊖◌, dec, finite}
+use Rattle.elementary.specs.Notation.{◌⊗◌, dec, finite}
 use Rattle.elementary.specs.Trig.{cos_of}
 use Rattle.instant.specs.Greenwich.{greenwich_of}
 use Rattle.tle.specs.declared.Record.{Record}
@@ -36,7 +36,7 @@ use Rattle.opening.specs.Finite.{finite_kept, finite_place, finite_satellite}
 use Rattle.opening.proofs.Tests.{both, left, right, second_of_5, fifth_of_5, second_of_7, fourth_of_7, first_of_9}
 use Rattle.opening.proofs.FloatLaws.{mul_left, mul_right, sub_right}
 use Rattle.opening.proofs.Guard.{guarded}
-use Rattle.opening.proofs.Made.{model_at, Made, made}
+use Rattle.opening.proofs.Made.{Made, made}
 
 -- ── what a row keeps: eta is made of ao, aycof of sinio, x1mth2 of cosio ──
 

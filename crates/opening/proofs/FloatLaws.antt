@@ -1,5 +1,4 @@
 -- A product or a difference is finite only where what it is made of is.
-use Prim.Native.Nat.{ℕ}
 use mathlib.Core.Path.{◌≡◌, refl}
 use mathlib.Core.Bool.{Bool, true, false, not, cond, beq}
 use lib.Dec.{eqb}

@@ -1,8 +1,8 @@
 -- 002's guard holds for every legal record: the eccentricity is below 1, so that 1 - e² is not below 0.
 use Prim.Native.Nat.{ℕ, zero, suc, ◌<◌}
 use native.Mathlib.Omega.{arith}
-use mathlib.Core.Path.{◌≡◌, refl, sym, ap, subst}
-use mathlib.Core.Bool.{Bool, true, false, ◌||◌}
+use mathlib.Core.Path.{◌≡◌, refl, ap, subst}
+use mathlib.Core.Bool.{Bool, true, ◌||◌}
 use lib.Dec.{T, ltb}
 use lib.Ieee.{Float, binary64, le, lt, eq, mul, sub, add, sum, neg, round, units, odd, size, span, climb}
 use lib.Count.{count_trailing_zeros}

@@ -1,5 +1,5 @@
 -- Opening a record: document 01, "Opening: 16, 7, 8", and 002's sgp4init (lines 2949-3225), the branches joined. Definitions only.
-use Rattle.std.specs.Prelude.{ℕ, ◌≡◌, Bool, true, cond, ◌&&◌, List, Float}
+use Rattle.std.specs.Prelude.{ℕ, Bool, true, cond, ◌&&◌, List, Float}
 use Rattle.std.specs.Float.Ieee.{lt}
 use Rattle.elementary.specs.Notation.{dec, finite}
 use Rattle.instant.specs.declared.Instant.{Instant}

@@ -16,6 +16,7 @@ pub struct Stepped {
 
 // One line more.
 pub fn next_step(
+    rt: HostRuntime,
     failed: &mut bool,
     input: Input,
     pairs: Pairs,
@@ -26,7 +27,7 @@ pub fn next_step(
 ) -> Stepped
     ensures { Reads failed.old input pairs buffer.old line1.old line.old out.old failed.new buffer.new line1.new line.new out.new result }
 {
-    let next = next_line(failed, input, buffer, line);
+    let next = next_line(rt, failed, input, buffer, line);
     let input = next.input;
     if !next.found {
         let step = finish(pairs, line1, out);

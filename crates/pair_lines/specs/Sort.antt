@@ -1,5 +1,5 @@
 -- Which line of a text of pairs is which.
-use Rattle.std.specs.Prelude.{ℕ, List, [], ◌∷◌, Bool, true, false, cond, not, ◌&&◌, ◌||◌, eqb, ltb, length, get_or}
+use Rattle.std.specs.Prelude.{ℕ, List, [], ◌∷◌, Bool, true, false, cond, ◌&&◌, ◌||◌, eqb, ltb, length, get_or}
 use Prim.Native.Char.{code}
 use Rattle.pair_lines.specs.declared.Sort.{Sort}
 use Rattle.pair_lines.specs.declared.Sort.TheVariants.{Blank, One, Two, Whole, Other}

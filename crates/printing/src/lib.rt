@@ -9,20 +9,20 @@ use row_line::put_row;
 use streams::print;
 use text::put_line;
 
-fn print_number(failed: &mut bool, label: &[u8], n: u64)
+fn print_number(rt: HostRuntime, failed: &mut bool, label: &[u8], n: u64)
     ensures { failed.old ≡ true → failed.new ≡ true }
 {
     let mut out = [0u8; 64];
     let size = put_line(&mut out, 0, label, n);
     if size <= 64 {
-        print(failed, &out[0..size]);
+        print(rt, failed, &out[0..size]);
     }
 }
 
-pub fn print_refused(failed: &mut bool, n: u64)
+pub fn print_refused(rt: HostRuntime, failed: &mut bool, n: u64)
     ensures { failed.old ≡ true → failed.new ≡ true }
 {
-    print_number(failed, b"refused ", n);
+    print_number(rt, failed, b"refused ", n);
 }
 
 // The parts of an answer's number, as specs/Answer of answers puts them together.
@@ -34,14 +34,14 @@ fn rounds_of(answer: u64) -> u8 {
     (answer / 256 % 256) as u8
 }
 
-fn print_strides(failed: &mut bool, answer: u64)
+fn print_strides(rt: HostRuntime, failed: &mut bool, answer: u64)
     ensures { failed.old ≡ true → failed.new ≡ true }
 {
-    print_number(failed, b"strides ", answer / 4294967296);
+    print_number(rt, failed, b"strides ", answer / 4294967296);
 }
 
 // A row is 114 bytes at most: refusal and rounds have two digits.
-fn print_row(failed: &mut bool, refusal: u8, state: [f64; 6], rounds: u8)
+fn print_row(rt: HostRuntime, failed: &mut bool, refusal: u8, state: [f64; 6], rounds: u8)
     ensures { failed.old ≡ true → failed.new ≡ true }
 {
     let mut out = [0u8; 128];
@@ -49,11 +49,12 @@ fn print_row(failed: &mut bool, refusal: u8, state: [f64; 6], rounds: u8)
         &mut out, 0, refusal, state[0], state[1], state[2], state[3], state[4], state[5], rounds,
     );
     if size <= 128 {
-        print(failed, &out[0..size]);
+        print(rt, failed, &out[0..size]);
     }
 }
 
 fn print_row_at(
+    rt: HostRuntime,
     failed: &mut bool,
     i: usize,
     refusals: &[u8; 1024],
@@ -72,10 +73,11 @@ fn print_row_at(
         states[at + 4],
         states[at + 5],
     ];
-    print_row(failed, refusals[i], state, rounds[i]);
+    print_row(rt, failed, refusals[i], state, rounds[i]);
 }
 
 fn print_rows(
+    rt: HostRuntime,
     failed: &mut bool,
     n: usize,
     refusals: &[u8; 1024],
@@ -87,12 +89,13 @@ fn print_rows(
 {
     let mut i = 0;
     while i < n {
-        print_row_at(failed, i, refusals, states, rounds);
+        print_row_at(rt, failed, i, refusals, states, rounds);
         i += 1;
     }
 }
 
 fn print_rows_or_refusal(
+    rt: HostRuntime,
     failed: &mut bool,
     refusal: u8,
     n: usize,
@@ -103,23 +106,24 @@ fn print_rows_or_refusal(
     ensures { failed.old ≡ true → failed.new ≡ true }
 {
     if refusal != 0 {
-        print_refused(failed, refusal as u64);
+        print_refused(rt, failed, refusal as u64);
     } else if n <= 1024 {
-        print_rows(failed, n, refusals, states, rounds);
+        print_rows(rt, failed, n, refusals, states, rounds);
     }
 }
 
 // The answer to one time, and the state that it put.
-pub fn print_answer(failed: &mut bool, answer: u64, state: [f64; 6])
+pub fn print_answer(rt: HostRuntime, failed: &mut bool, answer: u64, state: [f64; 6])
     ensures { failed.old ≡ true → failed.new ≡ true }
 {
-    print_row(failed, refusal_of(answer), state, rounds_of(answer));
-    print_strides(failed, answer);
+    print_row(rt, failed, refusal_of(answer), state, rounds_of(answer));
+    print_strides(rt, failed, answer);
 }
 
 // The answer to a list of n times, from the rooms that it was answered in. A list refused whole has no
 // rows, and none longer than the rooms is answered.
 pub fn print_list(
+    rt: HostRuntime,
     failed: &mut bool,
     answer: u64,
     n: usize,
@@ -129,14 +133,14 @@ pub fn print_list(
 )
     ensures { failed.old ≡ true → failed.new ≡ true }
 {
-    print_rows_or_refusal(failed, refusal_of(answer), n, refusals, states, rounds);
-    print_strides(failed, answer);
+    print_rows_or_refusal(rt, failed, refusal_of(answer), n, refusals, states, rounds);
+    print_strides(rt, failed, answer);
 }
 
 // More times than a line may have are more than a list may have.
-pub fn refuse_list(failed: &mut bool)
+pub fn refuse_list(rt: HostRuntime, failed: &mut bool)
     ensures { failed.old ≡ true → failed.new ≡ true }
 {
-    print_refused(failed, 18);
-    print_strides(failed, 18);
+    print_refused(rt, failed, 18);
+    print_strides(rt, failed, 18);
 }

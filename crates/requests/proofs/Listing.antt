@@ -1,18 +1,17 @@
 -- A list refused, and a list answered.
 use mathlib.Core.Path.{◌≡◌, refl, sym, ap, ◌∙◌}
 use mathlib.Core.Bool.{Bool, true, false, cond}
-use mathlib.Core.List.{List, [], ◌∷◌, ◌++◌}
+use mathlib.Core.List.{List, []}
 use Prim.Native.Nat.{ℕ, ◌*◌, ◌≤◌}
 use native.Mathlib.Omega.{arith}
 use lib.ListN.{length}
-use lib.Dec.{ltb, eqb}
+use lib.Dec.{ltb}
 use lib.IntN.{ℤ}
 use lib.Ieee.{Float}
 use borrow.Author.Tests.{ltb-false, ne_eqb, eq-eqb}
 use Rattle.opening.specs.declared.opening.Satellite.{Satellite}
 use Rattle.instant.specs.declared.Strides.{Strides}
-use Rattle.requests.specs.declared.ListAnswer.{ListAnswer}
-use Rattle.requests.specs.Lists.{rows_from, strides_from, satellite_from, refusals_of, states_of, rounds_of, over, list_refusal, list_times, listed, ListPost}
+use Rattle.requests.specs.Lists.{rows_from, strides_from, satellite_from, refusals_of, states_of, rounds_of, over, list_refusal, list_times, ListPost}
 
 absurd : {A : Type 0} → ⊥ → A
 absurd = elim [ ]

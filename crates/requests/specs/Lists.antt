@@ -1,5 +1,5 @@
 -- A list of times, and what it leaves in the rooms that are lent: document 01, "Refusal numbers". Definitions only.
-use Rattle.std.specs.Prelude.{ℕ, ◌+◌, ◌*◌, ◌≡◌, Bool, true, false, cond, List, [], ◌∷◌, ◌++◌, map, length, drop, eqb, ltb, ℤ, Float}
+use Rattle.std.specs.Prelude.{ℕ, ◌+◌, ◌*◌, ◌≡◌, cond, List, [], ◌∷◌, ◌++◌, length, drop, eqb, ltb, ℤ, Float}
 use Rattle.satellite.specs.declared.Model.{Model}
 use Rattle.resonance.specs.declared.place.Place.{Place}
 use Rattle.sgp4.specs.declared.Row.{Row}

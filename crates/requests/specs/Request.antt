@@ -1,12 +1,10 @@
 -- One time put to any satellite handed in: document 01, "Steps of the model", its second paragraph, and refusal 9. Definitions only.
 use Rattle.std.specs.Prelude.{Bool, true, false, ℤ}
-use Rattle.instant.specs.declared.Strides.{Strides}
 use Rattle.satellite.specs.declared.Model.{Model}
 use Rattle.resonance.specs.declared.place.Place.{Place}
 use Rattle.resonance.specs.declared.place.Advance.{Advance}
 use Rattle.resonance.specs.Place.{advance_of}
 use Rattle.resonance.specs.Time.{side_of, in_range, stride_need}
-use Rattle.sgp4.specs.declared.Row.{Row}
 use Rattle.sgp4.specs.Sgp4.{integrator_of}
 use Rattle.sgp4.specs.Row.{refused_row}
 use Rattle.sgp4.specs.Kept.{row_from}

@@ -10,7 +10,6 @@ use Rattle.satellite.specs.declared.Integrator.{Integrator}
 use Rattle.resonance.specs.declared.place.Side.{Side}
 use Rattle.resonance.specs.declared.place.Side.TheVariants.{Forward, Back}
 use Rattle.resonance.specs.declared.place.Place.{Place}
-use Rattle.resonance.specs.declared.place.Advance.{Advance}
 use Rattle.resonance.specs.declared.held.Held.{Held}
 use Rattle.resonance.specs.Place.{same_side, number, facing, pick, resumes, begun, kept, iter, advanced, rise, advance_of}
 use Rattle.resonance.specs.Held.{held_at, unknown, Right, stays}

@@ -6,10 +6,8 @@ use Rattle.elementary.specs.Notation.{dec}
 use Rattle.satellite.specs.declared.SecularRates.{SecularRates}
 use Rattle.satellite.specs.declared.Resonance.{Resonance}
 use Rattle.satellite.specs.declared.Resonance.TheVariants as kinds
-use Rattle.satellite.specs.declared.Integrator.{Integrator}
 use Rattle.resonance_terms.specs.declared.dsinit.Orbit.{Orbit}
 use Rattle.resonance_terms.specs.declared.dsinit.Epoch.{Epoch}
-use Rattle.resonance_terms.specs.declared.dsinit.Start.{Start}
 use Rattle.resonance_terms.specs.Dsinit.{one_day, half_day, one_day_of, half_day_of, kind_of, theta_of, start_of, aonv_of, dsinit_from, dsinit_of}
 use Rattle.resonance_terms.specs.Ahead.{aonv_ahead}
 

@@ -1,11 +1,11 @@
 -- Windows as a loop comes by them: at most one run is open. There are at most half as many windows as samples, rounded up.
-use mathlib.Core.Path.{◌≡◌, refl, sym, ap, ◌∙◌, subst}
-use mathlib.Core.Bool.{Bool, true, false, cond, ◌&&◌, not}
+use mathlib.Core.Path.{◌≡◌, refl, ap, subst}
+use mathlib.Core.Bool.{Bool, true, false, cond}
 use mathlib.Core.List.{List, [], ◌∷◌}
 use Prim.Native.Nat.{ℕ, ◌+◌, ◌/◌, ◌≤◌}
 use native.Mathlib.Omega.{arith}
 use lib.ListN.{length}
-use Rattle.runs.specs.Runs.{Sample, Window, last_of_run, windows_from, windows_in}
+use Rattle.runs.specs.Runs.{Sample, Window, last_of_run, windows_from}
 use Rattle.runs.specs.Words.{RoomEnough}
 
 -- no run is open; or one is, from its first sample to its last so far

@@ -3,14 +3,14 @@ use mathlib.Core.Path.{◌≡◌, refl, sym, ap, ◌∙◌, subst}
 use mathlib.Core.Bool.{Bool, true, false, cond, false≢true}
 use mathlib.Core.Logic.{◌⊎◌, inl, inr}
 use mathlib.Core.List.{List, [], ◌∷◌}
-use Prim.Native.Nat.{ℕ, zero, suc, ◌+◌, ◌≤◌, ◌<◌}
+use Prim.Native.Nat.{ℕ, suc, ◌+◌, ◌≤◌, ◌<◌}
 use native.Mathlib.Omega.{arith}
 use lib.ListN.{length, get_or, drop}
 use lib.Seq.{get_or-drop, drop-drop}
 use lib.Dec.{ltb}
 use borrow.Author.Tests.{ltb-true, ltb-false}
 use Rattle.runs.specs.Runs.{Sample, Window, windows_from}
-use Rattle.runs.specs.Words.{Every, ExactlyOne, InOrder, Longest, Whole, Lies, Claim, sample_at, Rising, ClaimOf, InWords}
+use Rattle.runs.specs.Words.{Every, ExactlyOne, InOrder, Whole, Lies, Claim, sample_at, InWords}
 use Rattle.runs.proofs.Room.{Run, closed, going, end, further, runs, loops}
 
 impossible : {A : Type 0} → ⊥ → A

@@ -1,6 +1,6 @@
 // The library's boundary to C and Rust: functions on numbers and slices, each a function of a crate
-// below (those named lent_) under an exported name. A satellite lies in memory that the caller lends
-// (crate storage). include/saddlekerf.h has the same for C.
+// below (those named lent_) under the name that crate saddlekerf_c exports. A satellite lies in memory
+// that the caller lends (crate storage). include/saddlekerf.h has the same for C.
 #![tactic(auto)]
 
 ghost use Rattle.std.specs.Prelude.{◌≡◌, ◌%◌, length};
@@ -52,8 +52,7 @@ use outward_order::best_order;
 use report::numbers::count_text;
 
 // The version of the library, as one number.
-#[unsafe(no_mangle)]
-pub extern "C" fn saddlekerf_version() -> u64
+pub fn saddlekerf_version() -> u64
     ensures { result ≡ version }
 {
     400
@@ -61,32 +60,28 @@ pub extern "C" fn saddlekerf_version() -> u64
 
 // The number of this boundary, which stands in the name too: a header of another boundary refers to
 // another name and does not link.
-#[unsafe(no_mangle)]
-pub extern "C" fn saddlekerf_abi_3() -> u64
+pub fn saddlekerf_abi_3() -> u64
     ensures { result ≡ boundary }
 {
     3
 }
 
 // Reads a pair: 0, or the refusal with its values.
-#[unsafe(no_mangle)]
-pub extern "C" fn saddlekerf_read(line1: &[u8], line2: &[u8]) -> u64
+pub fn saddlekerf_read(line1: &[u8], line2: &[u8]) -> u64
     ensures { result ≡ P.reading_answer (read_of line1.now line2.now) }
 {
     read_answer(line1, line2)
 }
 
 // The checksum digit of any bytes, 0 to 9: of the first 68 of a line, what its last column has to be.
-#[unsafe(no_mangle)]
-pub extern "C" fn saddlekerf_checksum(bytes: &[u8]) -> u64
+pub fn saddlekerf_checksum(bytes: &[u8]) -> u64
     ensures { result ≡ sum bytes.now % 10 }
 {
     checksum(bytes)
 }
 
 // The listing of a pair, or of its refusal, at the front of `out`; 17 where that is too short.
-#[unsafe(no_mangle)]
-pub extern "C" fn saddlekerf_print(line1: &[u8], line2: &[u8], out: &mut [u8]) -> u64
+pub fn saddlekerf_print(line1: &[u8], line2: &[u8], out: &mut [u8]) -> u64
     ensures value { result ≡ P.printed_answer (T.answer (T.reading_text (read_of line1.now line2.now)) (length out.old)) }
     ensures out_after { out.new ≡ fronted (T.reading_text (read_of line1.now line2.now)) out.old }
 {
@@ -94,8 +89,7 @@ pub extern "C" fn saddlekerf_print(line1: &[u8], line2: &[u8], out: &mut [u8]) -
 }
 
 // The epoch of a pair, in microseconds since 1957 January 1, 0h.
-#[unsafe(no_mangle)]
-pub extern "C" fn saddlekerf_epoch(line1: &[u8], line2: &[u8], micros: &mut u64) -> u64
+pub fn saddlekerf_epoch(line1: &[u8], line2: &[u8], micros: &mut u64) -> u64
     ensures value { result ≡ P.epoch_answer (read_of line1.now line2.now) }
     ensures micros_after { micros.new ≡ P.epoch_put (read_of line1.now line2.now) micros.old }
 {
@@ -103,8 +97,7 @@ pub extern "C" fn saddlekerf_epoch(line1: &[u8], line2: &[u8], micros: &mut u64)
 }
 
 // The record of a pair, as 22 whole numbers at the front of `fields` (crate record_numbers).
-#[unsafe(no_mangle)]
-pub extern "C" fn saddlekerf_record(line1: &[u8], line2: &[u8], fields: &mut [i64]) -> u64
+pub fn saddlekerf_record(line1: &[u8], line2: &[u8], fields: &mut [i64]) -> u64
     ensures value { result ≡ C.record_answer (read_of line1.now line2.now) (length fields.old) }
     ensures fields_after { fields.new ≡ C.record_fields (read_of line1.now line2.now) fields.old }
 {
@@ -112,8 +105,7 @@ pub extern "C" fn saddlekerf_record(line1: &[u8], line2: &[u8], fields: &mut [i6
 }
 
 // The form of a pair alone: its fields, in range or not, as 22 whole numbers at the front of `fields`.
-#[unsafe(no_mangle)]
-pub extern "C" fn saddlekerf_form(line1: &[u8], line2: &[u8], fields: &mut [i64]) -> u64
+pub fn saddlekerf_form(line1: &[u8], line2: &[u8], fields: &mut [i64]) -> u64
     ensures value { result ≡ form_answer (form_of line1.now line2.now) (length fields.old) }
     ensures fields_after { fields.new ≡ form_fields (form_of line1.now line2.now) fields.old }
 {
@@ -121,16 +113,14 @@ pub extern "C" fn saddlekerf_form(line1: &[u8], line2: &[u8], fields: &mut [i64]
 }
 
 // The meaning alone of the fields whose numbers are at the front of `fields`: 0 where they are a record's.
-#[unsafe(no_mangle)]
-pub extern "C" fn saddlekerf_meaning(fields: &[i64]) -> u64
+pub fn saddlekerf_meaning(fields: &[i64]) -> u64
     ensures { result ≡ meaning_answer (judged_of fields.now) }
 {
     meaning_answer(fields)
 }
 
 // Line 1 or 2 of the record whose numbers are at the front of `fields`, at the front of `out`.
-#[unsafe(no_mangle)]
-pub extern "C" fn saddlekerf_write(fields: &[i64], line: u32, out: &mut [u8]) -> u64
+pub fn saddlekerf_write(fields: &[i64], line: u32, out: &mut [u8]) -> u64
     ensures value { result ≡ C.write_answer (given_of fields.now) line out.old }
     ensures out_after { out.new ≡ C.write_out (given_of fields.now) line out.old }
 {
@@ -138,13 +128,7 @@ pub extern "C" fn saddlekerf_write(fields: &[i64], line: u32, out: &mut [u8]) ->
 }
 
 // Lodges the pair of two lines in the roster, and its instant in the row beside it.
-#[unsafe(no_mangle)]
-pub extern "C" fn saddlekerf_lodge(
-    roster: &mut [u8],
-    row: &mut [u64],
-    line1: &[u8],
-    line2: &[u8],
-) -> u64
+pub fn saddlekerf_lodge(roster: &mut [u8], row: &mut [u64], line1: &[u8], line2: &[u8]) -> u64
     ensures value { result ≡ lodging_answer (lodging_of roster.old row.old line1.now line2.now) }
     ensures roster_after { roster.new ≡ lodged_over roster.old row.old line1.now line2.now }
     ensures row_after { row.new ≡ lodged_row roster.old row.old line1.now line2.now }
@@ -153,8 +137,7 @@ pub extern "C" fn saddlekerf_lodge(
 }
 
 // Withdraws the pair of a catalogue number from the roster, and its instant from the row beside it.
-#[unsafe(no_mangle)]
-pub extern "C" fn saddlekerf_withdraw(roster: &mut [u8], row: &mut [u64], number: u64) -> u64
+pub fn saddlekerf_withdraw(roster: &mut [u8], row: &mut [u64], number: u64) -> u64
     ensures value { result ≡ withdrawal_answer (withdrawal_of roster.old row.old number) }
     ensures roster_after { roster.new ≡ withdrawn_over roster.old row.old number }
     ensures row_after { row.new ≡ withdrawn_row roster.old row.old number }
@@ -163,8 +146,7 @@ pub extern "C" fn saddlekerf_withdraw(roster: &mut [u8], row: &mut [u64], number
 }
 
 // Fills the row of a roster that was kept without one, whatever the row held.
-#[unsafe(no_mangle)]
-pub extern "C" fn saddlekerf_fill_row(roster: &[u8], row: &mut [u64]) -> u64
+pub fn saddlekerf_fill_row(roster: &[u8], row: &mut [u64]) -> u64
     ensures value { result ≡ filling_answer (filling_of roster.now row.old) }
     ensures row_after { row.new ≡ filled_row roster.now row.old }
 {
@@ -173,8 +155,7 @@ pub extern "C" fn saddlekerf_fill_row(roster: &[u8], row: &mut [u64]) -> u64
 
 // What changed from the first roster to the second, each with its row, at the front of `out`; 22 with the
 // roster that is none or has another row, 1 or 2; 17 where `out` is too short.
-#[unsafe(no_mangle)]
-pub extern "C" fn saddlekerf_changes(
+pub fn saddlekerf_changes(
     first: &[u8],
     row1: &[u64],
     second: &[u8],
@@ -188,8 +169,7 @@ pub extern "C" fn saddlekerf_changes(
 }
 
 // The report of a whole text, its 17 numbers at the front of `counts` (crate report, specs/Numbers).
-#[unsafe(no_mangle)]
-pub extern "C" fn saddlekerf_report(text: &[u8], counts: &mut [u64]) -> u64
+pub fn saddlekerf_report(text: &[u8], counts: &mut [u64]) -> u64
     ensures value { result ≡ store_refusal (report_of text.now) (length counts.old) }
     ensures counts_after { counts.new ≡ stored_over (report_of text.now) counts.old }
 {
@@ -197,13 +177,7 @@ pub extern "C" fn saddlekerf_report(text: &[u8], counts: &mut [u64]) -> u64
 }
 
 // Opens a pair into lent memory.
-#[unsafe(no_mangle)]
-pub extern "C" fn saddlekerf_open(
-    line1: &[u8],
-    line2: &[u8],
-    numbers: &mut [f64],
-    marks: &mut [u32],
-) -> u64
+pub fn saddlekerf_open(line1: &[u8], line2: &[u8], numbers: &mut [f64], marks: &mut [u32]) -> u64
     ensures value { result ≡ O.open_answer (open_pair_of line1.now line2.now) (length numbers.old) (length marks.old) }
     ensures numbers_after { numbers.new ≡ O.open_numbers (open_pair_of line1.now line2.now) numbers.old marks.old }
     ensures marks_after { marks.new ≡ O.open_marks (open_pair_of line1.now line2.now) numbers.old marks.old }
@@ -212,8 +186,7 @@ pub extern "C" fn saddlekerf_open(
 }
 
 // Asks the satellite in memory for one time, in microseconds since its epoch.
-#[unsafe(no_mangle)]
-pub extern "C" fn saddlekerf_request(
+pub fn saddlekerf_request(
     numbers: &mut [f64],
     marks: &mut [u32],
     time: i64,
@@ -225,8 +198,7 @@ pub extern "C" fn saddlekerf_request(
 }
 
 // Asks the satellite in memory for a list of times.
-#[unsafe(no_mangle)]
-pub extern "C" fn saddlekerf_request_list(
+pub fn saddlekerf_request_list(
     numbers: &mut [f64],
     marks: &mut [u32],
     times: &[i64],
@@ -241,8 +213,7 @@ pub extern "C" fn saddlekerf_request_list(
 
 // Asks the satellite in memory for its windows above a station: their first instants at the front of
 // `firsts`, their last ones at the front of `lasts`.
-#[unsafe(no_mangle)]
-pub extern "C" fn saddlekerf_windows(
+pub fn saddlekerf_windows(
     numbers: &mut [f64],
     marks: &mut [u32],
     station: &[f64],
@@ -260,8 +231,7 @@ pub extern "C" fn saddlekerf_windows(
 // Asks the satellite in memory for its next pass over a station (latitude and longitude in degrees, height
 // in metres, least elevation in degrees): rise, highest point, set and the next call's start at the front
 // of `pass`.
-#[unsafe(no_mangle)]
-pub extern "C" fn saddlekerf_next_pass(
+pub fn saddlekerf_next_pass(
     numbers: &[f64],
     marks: &[u32],
     station: &[f64],
@@ -278,8 +248,7 @@ pub extern "C" fn saddlekerf_next_pass(
 
 // Asks where the satellite in memory stands at an instant, seen from a station: azimuth, elevation and
 // range at the front of `look`.
-#[unsafe(no_mangle)]
-pub extern "C" fn saddlekerf_look(
+pub fn saddlekerf_look(
     numbers: &[f64],
     marks: &[u32],
     station: &[f64],
@@ -293,8 +262,7 @@ pub extern "C" fn saddlekerf_look(
 }
 
 // Puts a list of times in the order that takes the fewest strides of a newly opened satellite.
-#[unsafe(no_mangle)]
-pub extern "C" fn saddlekerf_best_order(times: &mut [i64]) -> u64
+pub fn saddlekerf_best_order(times: &mut [i64]) -> u64
     ensures { (result ≡ 0) × (times.new ≡ best_order times.old) }
 {
     best_order(times);
@@ -303,21 +271,14 @@ pub extern "C" fn saddlekerf_best_order(times: &mut [i64]) -> u64
 
 // Checks an award plan: offers of four numbers each, entries that name offers, the claimed total in cents
 // and the turnaround in seconds.
-#[unsafe(no_mangle)]
-pub extern "C" fn saddlekerf_award(
-    offers: &[u64],
-    entries: &[u64],
-    total: u64,
-    turnaround: u64,
-) -> u64
+pub fn saddlekerf_award(offers: &[u64], entries: &[u64], total: u64, turnaround: u64) -> u64
     ensures { result ≡ award_answer (answer_of offers.now entries.now total turnaround) }
 {
     check_held(offers, entries, total, turnaround)
 }
 
 // An instant moved by a span.
-#[unsafe(no_mangle)]
-pub extern "C" fn saddlekerf_move(instant: u64, span: i64, moved: &mut u64) -> u64
+pub fn saddlekerf_move(instant: u64, span: i64, moved: &mut u64) -> u64
     ensures value { result ≡ moved_answer (move_of instant span) }
     ensures moved_after { moved.new ≡ moved_put (move_of instant span) moved.old }
 {
@@ -325,16 +286,14 @@ pub extern "C" fn saddlekerf_move(instant: u64, span: i64, moved: &mut u64) -> u
 }
 
 // An instant as a date: year, day of the year from 1, microseconds of that day.
-#[unsafe(no_mangle)]
-pub extern "C" fn saddlekerf_date(instant: u64, date: &mut [u64]) -> u64
+pub fn saddlekerf_date(instant: u64, date: &mut [u64]) -> u64
     ensures { (result ≡ date_answer (date_of instant) (length date.old)) × (date.new ≡ date_over (date_of instant) date.old) }
 {
     date_answer(Instant(instant), date)
 }
 
 // The instant of a date.
-#[unsafe(no_mangle)]
-pub extern "C" fn saddlekerf_instant(year: u64, day: u64, micros: u64, instant: &mut u64) -> u64
+pub fn saddlekerf_instant(year: u64, day: u64, micros: u64, instant: &mut u64) -> u64
     ensures value { result ≡ moved_answer (instant_of year day micros) }
     ensures instant_after { instant.new ≡ moved_put (instant_of year day micros) instant.old }
 {

@@ -1,5 +1,5 @@
-// The profile's boundary to C and Rust: the functions of module `lent` under their exported names.
-// include/saddlekerf_profile.h has the same for C.
+// The profile's boundary to C and Rust: the functions of module `lent` under the names that crate
+// saddlekerf_profile_c exports. include/saddlekerf_profile.h has the same for C.
 #![tactic(auto)]
 
 pub mod lent;
@@ -14,16 +14,14 @@ use lent::{open_held, request_held, request_list_held};
 
 // The number of this boundary, which stands in the name too: a header of another boundary refers to
 // another name and does not link.
-#[unsafe(no_mangle)]
-pub extern "C" fn saddlekerf_profile_abi_1() -> u64
+pub fn saddlekerf_profile_abi_1() -> u64
     ensures { result ≡ boundary }
 {
     1
 }
 
 // Opens a pair into lent memory.
-#[unsafe(no_mangle)]
-pub extern "C" fn saddlekerf_profile_open(
+pub fn saddlekerf_profile_open(
     line1: &[u8],
     line2: &[u8],
     numbers: &mut [f64],
@@ -37,8 +35,7 @@ pub extern "C" fn saddlekerf_profile_open(
 }
 
 // Asks the satellite in memory for one time, in microseconds since its epoch.
-#[unsafe(no_mangle)]
-pub extern "C" fn saddlekerf_profile_request(
+pub fn saddlekerf_profile_request(
     numbers: &mut [f64],
     marks: &mut [u32],
     time: i64,
@@ -50,8 +47,7 @@ pub extern "C" fn saddlekerf_profile_request(
 }
 
 // Asks the satellite in memory for a list of times.
-#[unsafe(no_mangle)]
-pub extern "C" fn saddlekerf_profile_request_list(
+pub fn saddlekerf_profile_request_list(
     numbers: &mut [f64],
     marks: &mut [u32],
     times: &[i64],

@@ -29,9 +29,8 @@ use Rattle.opening.specs.Opening.{epoch_place, newly, open_of}
 use Rattle.opening.proofs.Made.{made}
 use Rattle.requests.specs.Request.{reached, choose, inside, outside, asked, answered}
 use Rattle.requests.specs.Lists.{rows_from, strides_from, satellite_from}
-use Rattle.windows.specs.Windows.{Call, times_of, instants_of, windows_of}
-use Rattle.windows.specs.Answer.{call_times}
-use Rattle.sequences.specs.Demand3.{Request, One, Many, Windows, Outcome, outcome, row_times, run, times, sum, reported, Last, none, after, count_in, count_of, last_of, counts_of, lasts_of, counted, keep_if, ranged, Outward, farthest, row_alone, strides_alone, windows_alone, NoMore, epoch, Demand3}
+use Rattle.windows.specs.Windows.{times_of, instants_of, windows_of}
+use Rattle.sequences.specs.Demand3.{Request, One, Many, Windows, outcome, row_times, run, times, sum, reported, Last, none, after, count_in, count_of, last_of, counts_of, lasts_of, counted, keep_if, ranged, Outward, farthest, row_alone, strides_alone, windows_alone, NoMore, epoch, Demand3}
 
 -- ── the invariant: the saved position is that of the last time in range ──
 

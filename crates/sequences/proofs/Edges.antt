@@ -23,7 +23,7 @@ use Rattle.opening.specs.declared.opening.Satellite.{Satellite}
 use Rattle.opening.specs.declared.opening.Opening.TheVariants as opening
 use Rattle.opening.specs.Opening.{open_of}
 use Rattle.requests.specs.Request.{choose, inside, outside, asked}
-use Rattle.sequences.specs.Demand3.{Request, One, reported, counted, none, epoch}
+use Rattle.sequences.specs.Demand3.{One, counted, none, epoch}
 use Rattle.sequences.specs.Edges.{Edge, edges, refused_nine, Each}
 use Rattle.sequences.proofs.Demand3.{from_epoch, opened_place}
 

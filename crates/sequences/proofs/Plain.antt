@@ -4,7 +4,6 @@ use mathlib.Core.Bool.{Bool, true, false, cond}
 use mathlib.Core.List.{map}
 use lib.IntN.{ℤ}
 use Rattle.instant.specs.declared.Instant.{Instant}
-use Rattle.instant.specs.Greenwich.{epoch_days_of, greenwich_of}
 use Rattle.satellite.specs.declared.Elements.{Elements}
 use Rattle.satellite.specs.declared.Model.{Model}
 use Rattle.near_earth.specs.Initl.{initl, deep_space}
@@ -16,11 +15,9 @@ use Rattle.sgp4.specs.declared.Row.{Row}
 use Rattle.sgp4.specs.Row.{refused_row, row_at}
 use Rattle.sgp4.specs.Claims.{PlainRows}
 use Rattle.sgp4.proofs.Kept.{rows_as_computed}
-use Rattle.tle.specs.declared.Record.{Record}
 use Rattle.opening.specs.declared.opening.Satellite.{Satellite}
-use Rattle.opening.specs.declared.opening.Opening.TheVariants.{Opened}
 use Rattle.opening.specs.Elements.{elements_of}
-use Rattle.opening.specs.Opening.{model_of, open_of}
+use Rattle.opening.specs.Opening.{model_of}
 use Rattle.opening.proofs.Made.{model_at, made}
 use Rattle.requests.specs.Request.{reached, choose, inside, outside, asked}
 use Rattle.sequences.specs.Demand3.{row_times, row_alone, epoch}

@@ -1,6 +1,6 @@
 -- 002's sgp4 (lines 3322-3606) for a deep-space satellite: what stands under method 'd', and the steps of crate `state` around it. Definitions only.
 -- 002 goes on after an error; document 01 lets the first refusal met count.
-use Rattle.std.specs.Prelude.{Bool, true, false, cond, ◌||◌, Float}
+use Rattle.std.specs.Prelude.{Bool, false, cond, ◌||◌, Float}
 use Rattle.std.specs.Float.Ieee.{neg, lt}
 use Rattle.elementary.specs.Notation.{◌⊕◌, ◌⊖◌, ◌⊗◌, dec, pi}
 use Rattle.elementary.specs.Trig.{sin_of, cos_of}

@@ -1,6 +1,6 @@
 -- A satellite at an instant, as a station sees it. Definitions only. Where it has no position, the row refused or the instant or the epoch outside the
 -- calendar, it stands straight down.
-use Rattle.std.specs.Prelude.{ℕ, cond, List, [], ◌∷◌, eqb, ℤ, Float}
+use Rattle.std.specs.Prelude.{ℕ, cond, [], ◌∷◌, eqb, ℤ, Float}
 use Rattle.instant.specs.declared.Elapsed.{Elapsed}
 use Rattle.instant.specs.declared.Elapsed.TheVariants as elapsed
 use Rattle.instant.specs.Since.{since_of}

@@ -1,5 +1,5 @@
 -- Where the numbers that set-up keeps are as 002 computes them, sgp4 with them is 002's own.
-use mathlib.Core.Path.{◌≡◌, refl, ap, ◌∙◌}
+use mathlib.Core.Path.{◌≡◌, ap, ◌∙◌}
 use mathlib.Core.Bool.{cond}
 use lib.Ieee.{Float}
 use Rattle.instant.specs.declared.Minutes.{Minutes}

@@ -1,5 +1,5 @@
 -- 002's sgp4: secular gravity and drag, and the mean elements (lines 3356-3440). Definitions only.
-use Rattle.std.specs.Prelude.{Bool, true, false, cond, ◌||◌, Float}
+use Rattle.std.specs.Prelude.{Bool, cond, ◌||◌, Float}
 use Rattle.std.specs.Float.Ieee.{neg, lt, le}
 use Rattle.elementary.specs.Notation.{◌⊕◌, ◌⊖◌, ◌⊗◌, ◌⊘◌, dec}
 use Rattle.elementary.specs.Power.{pow15, pow23}

@@ -10,7 +10,6 @@ use lib.Ieee.{Float}
 use Rattle.instant.specs.declared.Instant.{Instant}
 use Rattle.satellite.specs.declared.DeepSpace.{DeepSpace}
 use Rattle.satellite.specs.declared.NearEarth.{NearEarth}
-use Rattle.satellite.specs.declared.Integrator.{Integrator}
 use Rattle.satellite.specs.declared.Resonance.{Resonance}
 use Rattle.satellite.specs.declared.Resonance.TheVariants as resonance
 use Rattle.satellite.specs.declared.Method.{Method}
@@ -23,7 +22,7 @@ use Rattle.opening.specs.declared.opening.Satellite.{Satellite}
 use Rattle.storage.specs.Storage.{place_numbers, near_numbers, lunar_solar_numbers, integrator_numbers, deep_numbers, method_numbers, model_numbers, numbers_of}
 use Rattle.storage.specs.Storage.{side_mark, isimp_mark, resonance_mark, method_mark, model_marks, place_marks, marks_of}
 use Rattle.storage.specs.Storage.{near_earth_at, lunar_solar_at, resonance_at, integrator_at, deep_space_at, method_at, side_at, place_at, epoch_at, model_at, satellite_of}
-use Rattle.storage.specs.Storage.{too_short, loading_of, stored_numbers, stored_marks, placed_numbers, placed_marks}
+use Rattle.storage.specs.Storage.{loading_of, stored_numbers, stored_marks, placed_numbers, placed_marks}
 use Rattle.storage.specs.declared.Loading.TheVariants.{Loaded}
 use Rattle.storing.proofs.Rooms.{enough, length_numbers, length_marks}
 

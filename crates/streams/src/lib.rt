@@ -3,65 +3,108 @@
 // of the input, and a program that passes the flag along has nothing else to look after.
 #![tactic(auto)]
 
+mod words; // the words of an error
+
 ghost use Rattle.std.specs.Prelude.{◌≡◌, true};
 ghost use Rattle.io.specs.Counts.{IsPrefixLen};
 
-use libc::{STDIN_FILENO, STDOUT_FILENO};
+use std::io::{Error, Print, Read};
+use text::put_decimal;
+use words::Words;
 
-// One read of a descriptor into the buffer: how many bytes came, none at the end of the input. What is told
+// Writes a text to standard error, as far as it takes it.
+pub fn tell(rt: HostRuntime, text: &[u8]) {
+    let _ = rt.stderr().write_all(text);
+}
+
+// Writes a line to standard error: what failed, a colon and the words of the error.
+pub fn fail(rt: HostRuntime, what: &[u8], error: &Error) {
+    let words = Words::of(error);
+    tell(rt, what);
+    tell(rt, b": ");
+    tell(rt, words.bytes());
+    tell(rt, b"\n");
+}
+
+// One read of a reader into the buffer: how many bytes came, none at the end of the input. What is told
 // of a failure begins with `what`.
-pub fn read_from(failed: &mut bool, buffer: &mut [u8], fd: i32, what: &[u8]) -> usize
+pub fn read_from<R: Read>(
+    rt: HostRuntime,
+    failed: &mut bool,
+    buffer: &mut [u8],
+    from: &mut R,
+    what: &[u8],
+) -> usize
     ensures prefix_len { IsPrefixLen result buffer.new }
     ensures failed_after { failed.old ≡ true → (failed.new ≡ true) × (result ≡ 0) × (buffer.new ≡ buffer.old) }
 {
     if *failed {
         return 0;
     }
-    let got = libc::read(fd, buffer);
-    if got < 0 {
-        os::fail(what);
-        *failed = true;
+    match from.read(buffer) {
+        Ok(got) => got,
+        Err(error) => {
+            fail(rt, what, &error);
+            *failed = true;
+            0
+        }
     }
-    io::count(got, buffer)
 }
 
 // One read of standard input.
-pub fn read(failed: &mut bool, buffer: &mut [u8]) -> usize
+pub fn read(rt: HostRuntime, failed: &mut bool, buffer: &mut [u8]) -> usize
     ensures prefix_len { IsPrefixLen result buffer.new }
     ensures failed_after { failed.old ≡ true → (failed.new ≡ true) × (result ≡ 0) × (buffer.new ≡ buffer.old) }
 {
-    read_from(failed, buffer, STDIN_FILENO, b"cannot read standard input")
+    read_from(
+        rt,
+        failed,
+        buffer,
+        &mut rt.stdin(),
+        b"cannot read standard input",
+    )
 }
 
 // Writes the whole text to standard output.
-pub fn print(failed: &mut bool, text: &[u8])
+pub fn print(rt: HostRuntime, failed: &mut bool, text: &[u8])
     ensures { failed.old ≡ true → failed.new ≡ true }
 {
     if *failed {
         return;
     }
-    if !io::write_all(STDOUT_FILENO, text) {
-        os::fail(b"cannot write to standard output");
-        *failed = true;
+    match rt.stdout().write_all(text) {
+        Ok(()) => {}
+        Err(error) => {
+            fail(rt, b"cannot write to standard output", &error);
+            *failed = true;
+        }
     }
 }
 
-pub fn print_decimal(failed: &mut bool, n: u64)
+pub fn print_decimal(rt: HostRuntime, failed: &mut bool, n: u64)
     ensures { failed.old ≡ true → failed.new ≡ true }
 {
     let mut digits = [0u8; 20];
-    let k = io::decimal(n, &mut digits);
-    print(failed, &digits[..k]);
+    let k = put_decimal(&mut digits, 0, n);
+    if k <= 20 {
+        print(rt, failed, &digits[0..k]);
+    }
 }
 
-// Reads a descriptor to its end, or until the space is full.
-pub fn read_all_from(failed: &mut bool, space: &mut [u8], fd: i32, what: &[u8]) -> usize
+// Reads a reader to its end, or until the space is full.
+pub fn read_all_from<R: Read>(
+    rt: HostRuntime,
+    failed: &mut bool,
+    space: &mut [u8],
+    from: &mut R,
+    what: &[u8],
+) -> usize
     ensures prefix_len { IsPrefixLen result space.new }
     ensures failed_after { failed.old ≡ true → (failed.new ≡ true) × (result ≡ 0) × (space.new ≡ space.old) }
 {
     let mut n = 0;
     while n < space.len() {
-        let more = read_from(failed, &mut space[n..], fd, what);
+        let more = read_from(rt, failed, &mut space[n..], from, what);
         if more == 0 {
             return n;
         }
@@ -71,9 +114,15 @@ pub fn read_all_from(failed: &mut bool, space: &mut [u8], fd: i32, what: &[u8]) 
 }
 
 // Reads standard input so.
-pub fn read_all(failed: &mut bool, space: &mut [u8]) -> usize
+pub fn read_all(rt: HostRuntime, failed: &mut bool, space: &mut [u8]) -> usize
     ensures prefix_len { IsPrefixLen result space.new }
     ensures failed_after { failed.old ≡ true → (failed.new ≡ true) × (result ≡ 0) × (space.new ≡ space.old) }
 {
-    read_all_from(failed, space, STDIN_FILENO, b"cannot read standard input")
+    read_all_from(
+        rt,
+        failed,
+        space,
+        &mut rt.stdin(),
+        b"cannot read standard input",
+    )
 }

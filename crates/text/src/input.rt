@@ -21,6 +21,7 @@ pub struct Lines {
 }
 
 impl Line {
+    #[tactic(auto, using(std::proofs::lemmas::Bool::Decides::nat_tests), unfolding(crate::specs::Input::pushed))]
     fn push(self, byte: u8) -> Line
         ensures { result ≡ pushed self byte }
     {

@@ -1,19 +1,18 @@
 -- A call refused, and a call answered.
-use mathlib.Core.Path.{◌≡◌, refl, sym, ap, ◌∙◌, subst}
-use mathlib.Core.Bool.{Bool, true, false, cond}
-use mathlib.Core.List.{List, [], ◌∷◌, ◌++◌, map}
+use mathlib.Core.Path.{◌≡◌, sym, ap, ◌∙◌, subst}
+use mathlib.Core.Bool.{Bool}
+use mathlib.Core.List.{List, []}
 use Prim.Native.Nat.{ℕ, ◌+◌, ◌/◌, ◌≤◌, min}
 use native.Mathlib.Omega.{arith}
 use lib.ListN.{length}
-use lib.Dec.{eqb}
 use lib.Ieee.{Float}
 use borrow.Author.Tests.{eq-eqb, ne_eqb}
 use Rattle.opening.specs.declared.opening.Satellite.{Satellite}
-use Rattle.requests.specs.Lists.{over, rows_from, strides_from, satellite_from}
+use Rattle.requests.specs.Lists.{strides_from}
 use Rattle.windows.specs.declared.Looked.{Looked}
 use Rattle.windows.specs.declared.WindowsAnswer.{WindowsAnswer}
 use Rattle.windows.specs.Windows.{Call, few_places, refusal_of, call_refusal, instants_from, instants_of, times_of}
-use Rattle.windows.specs.Answer.{call_of, windows_at, windowed, WindowsPost, windows_there, Looks}
+use Rattle.windows.specs.Answer.{call_of, WindowsPost, windows_there, Looks}
 use Rattle.windows.proofs.Refusing.{meets, places_enough}
 use Rattle.windows.proofs.Far.{near}
 

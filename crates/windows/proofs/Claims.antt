@@ -1,8 +1,8 @@
 -- What is claimed of every call for windows (specs/Claims).
-use mathlib.Core.Path.{◌≡◌, refl, sym, ap, ◌∙◌}
-use mathlib.Core.Bool.{Bool, true, false, cond}
+use mathlib.Core.Path.{◌≡◌, refl, ap, ◌∙◌}
+use mathlib.Core.Bool.{Bool, true, false}
 use mathlib.Core.List.{List, [], ◌∷◌, map}
-use Prim.Native.Nat.{ℕ, zero, suc, ◌+◌, ◌*◌, ◌/◌, ◌≤◌, ◌<◌}
+use Prim.Native.Nat.{ℕ, zero, suc, ◌+◌, ◌*◌, ◌≤◌, ◌<◌}
 use native.Mathlib.Omega.{arith}
 use native.Mathlib.Nat.{mul-le-mul_right}
 use lib.ListN.{length, get_or}
@@ -12,7 +12,7 @@ use lib.Ieee.{Float}
 use borrow.Author.Tests.{eq-eqb, ne_eqb, eqb-true}
 use Rattle.instant.specs.Calendar.{in_calendar}
 use Rattle.runs.specs.Runs.{Sample}
-use Rattle.runs.specs.Words.{sample_at, ClaimOf}
+use Rattle.runs.specs.Words.{sample_at}
 use Rattle.runs.proofs.Room.{room_enough}
 use Rattle.runs.proofs.Words as runs
 use Rattle.sgp4.specs.declared.Row.{Row}
@@ -20,8 +20,7 @@ use Rattle.sgp4.specs.Row.{refused_row}
 use Rattle.opening.specs.declared.opening.Satellite.{Satellite}
 use Rattle.requests.specs.Request.{answered}
 use Rattle.requests.specs.Lists.{rows_from}
-use Rattle.windows.specs.Windows.{Call, few_places, call_refusal, sample_micros, instants_from, instants_of, times_of, next_if, rest_if, Sampled, sampled_of, sight, samples_of, windows_of}
-use Rattle.windows.specs.Answer.{windowed}
+use Rattle.windows.specs.Windows.{Call, few_places, call_refusal, sample_micros, instants_from, instants_of, times_of, next_if, rest_if, sampled_of, samples_of, windows_of}
 use Rattle.windows.specs.Claims.{InWords, FitsPlaces, FewWindows, row_by, sample_rows, RowByRow, RefusedNothing}
 use Rattle.windows.proofs.Refusing.{meets, meets_step, places_enough}
 

@@ -5,8 +5,8 @@ use mathlib.Core.List.{List, [], ◌∷◌, map}
 use Prim.Native.Nat.{ℕ, suc, ◌+◌, ◌-◌, ◌≤◌, ◌<◌, min}
 use native.Mathlib.Omega.{arith}
 use lib.ListN.{length}
-use lib.Dec.{ltb, leb}
-use lib.IntN.{ℤ, nat_abs, sub_ℕ}
+use lib.Dec.{ltb}
+use lib.IntN.{ℤ, sub_ℕ}
 use lib.Ieee.{Float}
 use borrow.Author.Tests.{ltb-true, ltb-false, lt-ltb, lt-leb}
 use Rattle.instant.specs.Calendar.{in_calendar}
@@ -16,9 +16,8 @@ use Rattle.opening.specs.declared.opening.Satellite.{Satellite}
 use Rattle.requests.specs.declared.Answered.{Answered}
 use Rattle.requests.specs.Request.{asked, outside, answered}
 use Rattle.requests.specs.Lists.{over, rows_from, strides_from, satellite_from}
-use Rattle.sgp4.specs.declared.Row.{Row}
 use Rattle.windows.specs.declared.Looked.{Looked}
-use Rattle.runs.specs.Runs.{Window, windows_in}
+use Rattle.runs.specs.Runs.{windows_in}
 use Rattle.windows.specs.Windows.{times_of, samples_of}
 use Rattle.windows.specs.Answer.{windows_there, Looks}
 

@@ -1,22 +1,19 @@
 -- A call that is not refused: the rows of the samples inside the calendar, and their windows.
-use mathlib.Core.Path.{◌≡◌, refl, sym, ap, ◌∙◌, subst}
-use mathlib.Core.Bool.{Bool, true, false, cond}
+use mathlib.Core.Path.{◌≡◌, refl, sym, ap, ◌∙◌}
+use mathlib.Core.Bool.{false}
 use mathlib.Core.Logic.{◌⊎◌, inl, inr}
 use mathlib.Core.List.{List, [], ◌∷◌, ◌++◌, map}
-use Prim.Native.Nat.{ℕ, zero, suc, ◌+◌, ◌*◌, ◌≤◌, ◌<◌}
+use Prim.Native.Nat.{ℕ, suc, ◌*◌, ◌≤◌, ◌<◌}
 use native.Mathlib.Omega.{arith}
 use lib.ListN.{length, take, drop}
 use lib.Seq.{length-take-le}
-use lib.Dec.{eqb, ltb}
 use lib.IntN.{ℤ}
 use lib.Ieee.{Float}
 use borrow.Author.Tests.{le-ltb, eq-eqb}
-use Rattle.instant.specs.declared.Strides.{Strides}
 use Rattle.opening.specs.declared.opening.Satellite.{Satellite}
 use Rattle.requests.specs.declared.ListAnswer.{ListAnswer}
 use Rattle.requests.specs.Request.{answered}
 use Rattle.requests.specs.Lists.{rows_from, strides_from, satellite_from, refusals_of, states_of, over, list_refusal, list_times, ListPost}
-use Rattle.runs.specs.Runs.{Window}
 use Rattle.windows.specs.Windows.{instants_from, times_of}
 use Rattle.windows.specs.Scan.{instant_at, is_seen, windows_to, Written}
 use Rattle.windows.specs.Answer.{Times, windows_there, Looks}

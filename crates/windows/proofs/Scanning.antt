@@ -1,11 +1,10 @@
 -- Windows written one after the other at the front of two rooms.
 use mathlib.Core.Path.{◌≡◌, refl, sym, ap, ◌∙◌, subst}
-use mathlib.Core.Bool.{Bool, true, false, cond, not, ◌&&◌, false≢true}
+use mathlib.Core.Bool.{Bool, true, false, cond, false≢true}
 use mathlib.Core.List.{List, [], ◌∷◌, ◌++◌, map}
-use Prim.Native.Nat.{ℕ, zero, suc, ◌+◌, ◌*◌, ◌/◌, ◌≤◌, ◌<◌}
+use Prim.Native.Nat.{ℕ, suc, ◌+◌, ◌*◌, ◌/◌, ◌≤◌, ◌<◌}
 use native.Mathlib.Omega.{arith}
 use lib.ListN.{length, set, length-append, length-set}
-use lib.Dec.{eqb}
 use lib.Ieee.{Float}
 use borrow.Author.Tests.{eq-eqb, ne_eqb}
 use Rattle.earth_fixed.specs.Frame.{seen_of}
@@ -14,7 +13,7 @@ use Rattle.requests.specs.Lists.{over}
 use Rattle.requests.proofs.Filling.{over_set}
 use Rattle.windows.specs.declared.Track.{Track}
 use Rattle.windows.specs.Windows.{sees}
-use Rattle.windows.specs.Scan.{Scan, shut, further_of, closing, scanned, windows_to, Put, Written}
+use Rattle.windows.specs.Scan.{shut, further_of, closing, scanned, windows_to, Put, Written}
 
 -- ── one run ──
 

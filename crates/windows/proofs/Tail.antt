@@ -1,15 +1,13 @@
 -- Samples outside the calendar are the last ones: after one of them no time is put to the satellite.
-use mathlib.Core.Path.{◌≡◌, refl, sym, ap, ◌∙◌}
-use mathlib.Core.Bool.{Bool, true, false}
-use mathlib.Core.List.{List, [], ◌∷◌}
-use Prim.Native.Nat.{ℕ, zero, suc, ◌+◌, ◌*◌, ◌≤◌}
+use mathlib.Core.Path.{◌≡◌, refl}
+use mathlib.Core.Bool.{false}
+use mathlib.Core.List.{[]}
+use Prim.Native.Nat.{ℕ, zero, suc, ◌*◌, ◌≤◌}
 use native.Mathlib.Omega.{arith}
 use native.Mathlib.Nat.{mul-le-mul_right}
-use lib.IntN.{ℤ}
-use lib.Dec.{ltb}
 use borrow.Author.Tests.{ltb-false, le-ltb}
 use Rattle.instant.specs.Calendar.{in_calendar, calendar_end}
-use Rattle.windows.specs.Windows.{sample_micros, instants_from, keep_time, times_of}
+use Rattle.windows.specs.Windows.{sample_micros, instants_from, times_of}
 
 pub later : (x y : ℕ) → x ≤ y → in_calendar x ≡ false → in_calendar y ≡ false
 unfolding in_calendar

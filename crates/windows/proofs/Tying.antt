@@ -1,12 +1,11 @@
 -- The windows of the loop over rows are the windows of the samples: those inside the calendar have the rows, and no window has one of the others.
-use mathlib.Core.Path.{◌≡◌, refl, sym, ap, ◌∙◌, subst}
+use mathlib.Core.Path.{◌≡◌, refl, sym, ap, ◌∙◌}
 use mathlib.Core.Bool.{Bool, true, false, cond}
 use mathlib.Core.List.{List, [], ◌∷◌, ◌++◌, append_assoc}
-use Prim.Native.Nat.{ℕ, zero, suc, ◌+◌, ◌*◌, ◌≤◌, ◌<◌}
+use Prim.Native.Nat.{ℕ, zero, suc, ◌+◌, ◌*◌}
 use native.Mathlib.Omega.{arith}
 use lib.ListN.{length, get_or, drop}
 use lib.Seq.{get_or-drop, drop-drop}
-use lib.IntN.{ℤ}
 use lib.Ieee.{Float, nan}
 use Rattle.instant.specs.Calendar.{in_calendar}
 use Rattle.sgp4.specs.declared.Row.{Row}
@@ -15,7 +14,7 @@ use Rattle.requests.specs.Lists.{refusals_of, states_of}
 use Rattle.windows.specs.declared.Track.{Track}
 use Rattle.runs.specs.Runs.{Sample, Window, windows_in}
 use Rattle.runs.proofs.Room.{Run, closed, going, end, further, runs, loops}
-use Rattle.windows.specs.Windows.{sample_micros, instants_from, times_of, Sampled, sampled_of, sees, sight, samples_of}
+use Rattle.windows.specs.Windows.{sample_micros, instants_from, times_of, sees, sight, samples_of}
 use Rattle.windows.specs.Scan.{instant_at, is_seen, further_of, closing, scanned, windows_to}
 use Rattle.windows.proofs.Tail.{later, rises, no_more}
 

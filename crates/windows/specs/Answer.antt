@@ -1,5 +1,5 @@
 -- A call for windows: what it answers, and every place of the two rooms lent afterwards. Definitions only.
-use Rattle.std.specs.Prelude.{ℕ, ◌≤◌, ◌<◌, min, ◌≡◌, ◌⊎◌, List, [], ◌∷◌, map, length, take, ℤ, Float}
+use Rattle.std.specs.Prelude.{ℕ, ◌≤◌, ◌<◌, min, ◌≡◌, ◌⊎◌, List, map, length, take, ℤ, Float}
 use Rattle.opening.specs.declared.opening.Satellite.{Satellite}
 use Rattle.runs.specs.Runs.{Window, windows_in}
 use Rattle.requests.specs.Lists.{over, rows_from, strides_from, satellite_from}

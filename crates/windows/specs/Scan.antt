@@ -1,5 +1,5 @@
 -- From rows to windows, as a loop comes by them. Definitions only.
-use Rattle.std.specs.Prelude.{ℕ, zero, suc, ◌+◌, ◌*◌, ◌≡◌, Bool, true, false, cond, ◌&&◌, List, [], ◌∷◌, ◌++◌, map, length, get_or, set, Float}
+use Rattle.std.specs.Prelude.{ℕ, zero, suc, ◌+◌, ◌*◌, ◌≡◌, Bool, true, false, cond, List, [], ◌∷◌, ◌++◌, map, length, get_or, set, Float}
 use Rattle.std.specs.Float.{nan}
 use Rattle.runs.specs.Runs.{Window}
 use Rattle.requests.specs.Lists.{over}

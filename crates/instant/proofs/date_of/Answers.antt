@@ -1,5 +1,4 @@
 use mathlib.Core.Path.{sym}
-use borrow.Author.Rules.{rules}
 use Rattle.instant.specs.Calendar.{date_of, years_since}
 use Rattle.instant.proofs.Calendar.{year_begun}
 use Rattle.instant.proofs.date_of.Goals as goal

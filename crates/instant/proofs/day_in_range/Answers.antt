@@ -1,6 +1,5 @@
 use Prim.Native.Nat.{◌≤◌}
 use native.Mathlib.Omega.{arith}
-use borrow.Author.Rules.{rules}
 use Rattle.instant.specs.Calendar.{day_in_range}
 use Rattle.instant.proofs.Calendar.{last_day_most}
 use Rattle.instant.proofs.day_in_range.Tie as tie

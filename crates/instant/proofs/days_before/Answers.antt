@@ -1,5 +1,4 @@
 use mathlib.Core.Path.{sym}
-use borrow.Author.Rules.{rules}
 use Rattle.instant.proofs.Calendar.{days_before_lem}
 use Rattle.instant.proofs.days_before.Goals as goal
 

@@ -4,7 +4,6 @@ use lib.IntN.{nat_abs}
 use mir.Syntax.{w64}
 use mir.Val.{SFits}
 use mir.ValLaws.{to_z-of_z}
-use borrow.Author.Rules.{rules}
 use Rattle.instant.proofs.distance.Tie as tie
 use Rattle.instant.proofs.distance.Lts as lts
 use Rattle.instant.proofs.distance.Reads as reads

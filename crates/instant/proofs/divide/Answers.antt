@@ -1,6 +1,4 @@
-use Prim.Native.Nat.{◌+◌, ◌-◌, ◌*◌, ◌/◌, ◌%◌}
 use native.Mathlib.Omega.{arith}
-use Rattle.instant.specs.Division.{Divided}
 use Rattle.instant.proofs.Long.{begin, further}
 use Rattle.instant.proofs.divide.Goals as goal
 

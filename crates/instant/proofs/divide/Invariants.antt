@@ -1,7 +1,5 @@
-use Prim.Native.Nat.{◌+◌, ◌-◌, ◌*◌, ◌/◌, ◌%◌}
-use native.Mathlib.Omega.{arith}
+use Prim.Native.Nat.{◌-◌}
 use Rattle.instant.specs.Division.{Divided}
-use Rattle.instant.proofs.Long.{begin, further}
 use Rattle.instant.proofs.divide.Given as goal
 
 abbrev pub invariant-loop-quotient : goal.invariant-loop-quotient

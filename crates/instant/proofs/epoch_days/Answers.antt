@@ -1,5 +1,4 @@
 use mathlib.Core.Path.{sym}
-use borrow.Author.Rules.{rules}
 use Rattle.instant.specs.Greenwich.{epoch_days_at}
 use Rattle.instant.proofs.epoch_days.Goals as goal
 

@@ -1,5 +1,4 @@
 use mathlib.Core.Path.{sym}
-use borrow.Author.Rules.{rules}
 use Rattle.instant.specs.Greenwich.{greenwich_of, greenwich_at}
 use Rattle.instant.proofs.greenwich.Goals as goal
 

@@ -1,5 +1,4 @@
 use mathlib.Core.Path.{sym, ap, ◌∙◌}
-use borrow.Author.Rules.{rules}
 use lib.Ieee.{Float, round, units, odd, size, span, climb, of_bits}
 use lib.Count.{count_trailing_zeros}
 use Rattle.elementary.specs.Notation.{◌⊗◌, ◌⊘◌, dec}

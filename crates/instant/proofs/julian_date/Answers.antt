@@ -1,5 +1,4 @@
 use mathlib.Core.Path.{sym}
-use borrow.Author.Rules.{rules}
 use Rattle.instant.specs.Greenwich.{julian_at}
 use Rattle.instant.proofs.julian_date.Goals as goal
 

@@ -1,5 +1,4 @@
 use mathlib.Core.Path.{sym}
-use borrow.Author.Rules.{rules}
 use Rattle.instant.specs.Move.{landed}
 use Rattle.instant.proofs.land.Goals as goal
 

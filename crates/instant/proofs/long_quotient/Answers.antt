@@ -1,6 +1,5 @@
 use mathlib.Core.Path.{◌∙◌}
 use native.Mathlib.Omega.{arith}
-use borrow.Author.Rules.{rules}
 use Rattle.instant.proofs.Long.{down_to, up_to, to_even}
 use Rattle.instant.proofs.long_quotient.Goals as goal
 

@@ -4,8 +4,6 @@ use Prim.Native.Nat.{ℕ, ◌+◌, ◌-◌}
 use native.Mathlib.Omega.{arith}
 use mir.Syntax.{w64}
 use mir.Val.{SFits}
-use borrow.Author.Rules.{rules}
-use borrow.Author.Tests.{not-true, not-false}
 use Rattle.instant.specs.Calendar.{in_calendar}
 use Rattle.instant.specs.Move.{landed}
 use Rattle.instant.proofs.Signed.{back, negative}

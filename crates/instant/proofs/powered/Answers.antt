@@ -6,7 +6,6 @@ use lib.IntN.{nat_abs}
 use lib.Ieee.{binary64, round}
 use mir.Syntax.{w64}
 use mir.ValLaws.{to_z-of_z}
-use borrow.Author.Rules.{rules}
 use Rattle.instant.proofs.Signed.{back, negative}
 use Rattle.instant.proofs.Exponent.{below, within, beyond, nine_digits}
 use Rattle.instant.proofs.powered.Tie as tie

@@ -1,6 +1,5 @@
 use mathlib.Core.Path.{ap, ◌∙◌}
 use native.Mathlib.Omega.{arith}
-use borrow.Author.Rules.{rules}
 use lib.Ieee.{Float, binary64, mul, round, units, odd, size, span, climb, of_bits}
 use mathlib.Core.Bool.{false}
 use lib.Count.{count_trailing_zeros}

@@ -6,7 +6,6 @@ use lib.Ieee.{neg, div, of_bits}
 use mir.Syntax.{w64}
 use mir.Val.{to_z, of_z}
 use mir.ValLaws.{to_z-of_z}
-use borrow.Author.Rules.{rules}
 use borrow.Author.Tests.{le-leb, lt-leb}
 use Rattle.instant.specs.Quantity.{powered_of, scaled_of}
 use Rattle.instant.proofs.Signed.{negative}

@@ -6,8 +6,6 @@ use lib.IntN.{pos, ◌-ℤ◌}
 use mir.Syntax.{w64}
 use mir.Val.{SFits, to_z}
 use mir.ValLaws.{to_z-of_z, to_z_pos}
-use borrow.Author.Rules.{rules}
-use borrow.Author.Tests.{not-true, not-false}
 use Rattle.instant.specs.Calendar.{in_calendar}
 use Rattle.instant.specs.Since.{since_of}
 use Rattle.instant.proofs.Calendar.{below, both}

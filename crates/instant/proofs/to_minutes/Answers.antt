@@ -8,7 +8,6 @@ use lib.Count.{count_trailing_zeros}
 use mir.Syntax.{w64}
 use mir.Val.{SFits}
 use mir.ValLaws.{to_z-of_z}
-use borrow.Author.Rules.{rules}
 use Rattle.instant.specs.Quantity.{minutes_of}
 use Rattle.instant.proofs.Signed.{negative, exact}
 use Rattle.instant.proofs.Once.{once_signed, over_negative, over_positive}

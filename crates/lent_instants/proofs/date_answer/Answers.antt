@@ -6,9 +6,10 @@ use Rattle.lent_instants.proofs.date_answer.Goals as goal
 
 pub returns-in-On : goal.returns-in-On
 returns-in-On c =
+    let p = c.put_date.ensures in
     let out = c.args.out.now in
     let e = sym c.date_of.ensures ∙ c.in-On.is in
-    (c.put_date.ensures.0 ∙ sym (ap (λ (x : Dated). date_answer x (length out)) e), c.put_date.ensures.1 ∙ sym (ap (λ (x : Dated). date_over x out) e))
+    (p.0 ∙ sym (ap (λ (x : Dated). date_answer x (length out)) e), p.1 ∙ sym (ap (λ (x : Dated). date_over x out) e))
 
 pub returns-in-Outside : goal.returns-in-Outside
 unfolding date_answer date_over

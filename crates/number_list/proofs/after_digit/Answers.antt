@@ -7,14 +7,12 @@ use Rattle.number_list.proofs.after_digit.Goals as goal
 
 pub overflow_mul-result : goal.overflow_mul-result
 overflow_mul-result c =
-    let a = c.args in
-    let h : a.t.value * 10 + a.digit ≤ most_number = leb-true (a.t.value * 10 + a.digit) most_number (sym c.has_room.ensures ∙ c.if-has_room.true) in
+    let h : c.args.t.value * 10 + c.args.digit ≤ most_number = leb-true (c.args.t.value * 10 + c.args.digit) most_number (sym c.has_room.ensures ∙ c.if-has_room.true) in
     omega (arith, h)
 
 pub overflow_add-result : goal.overflow_add-result
 overflow_add-result c =
-    let a = c.args in
-    let h : a.t.value * 10 + a.digit ≤ most_number = leb-true (a.t.value * 10 + a.digit) most_number (sym c.has_room.ensures ∙ c.if-has_room.true) in
+    let h : c.args.t.value * 10 + c.args.digit ≤ most_number = leb-true (c.args.t.value * 10 + c.args.digit) most_number (sym c.has_room.ensures ∙ c.if-has_room.true) in
     omega (arith, h)
 
 pub returns-then-has_room : goal.returns-then-has_room

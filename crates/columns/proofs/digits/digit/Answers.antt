@@ -1,7 +1,6 @@
 use borrow.Author.Tests.{le-leb, lt-leb}
 use native.Mathlib.Omega.{arith}
 use Rattle.columns.specs.Sum.{digit_of}
-use borrow.Author.Rules.{rules}
 use Rattle.columns.proofs.digits.digit.Goals as goal
 
 pub returns-then-b-le57 : goal.returns-then-b-le57

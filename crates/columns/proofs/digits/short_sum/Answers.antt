@@ -1,9 +1,5 @@
 use borrow.Author.Rules.{rules}
 use native.Mathlib.Omega.{arith}
-use mathlib.Core.Path.{◌≡◌}
-use Prim.Native.Nat.{◌≤◌, ◌+◌, ◌*◌, ◌-◌}
-use lib.ListN.{length, drop}
-use Rattle.columns.specs.Sum.{sum}
 use Rattle.columns.proofs.Sums.{sum_more, sum_done}
 use Rattle.columns.proofs.digits.short_sum.Goals as goal
 

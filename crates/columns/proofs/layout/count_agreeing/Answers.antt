@@ -1,10 +1,5 @@
-use Prim.Native.Nat.{◌≤◌, ◌-◌, ◌+◌}
-use mathlib.Core.Bool.{true}
-use mathlib.Core.Path.{◌≡◌, sym, ◌∙◌}
-use borrow.Author.Tests.{not-true, not-false}
+use mathlib.Core.Path.{sym, ◌∙◌}
 use borrow.Author.Rules.{rules}
-use lib.ListN.{length, drop}
-use Rattle.columns.specs.Layout.{agreed}
 use Rattle.columns.proofs.Columns.{more, stop, done, line_done}
 use Rattle.columns.proofs.layout.count_agreeing.Goals as goal
 

@@ -1,11 +1,8 @@
 use Prim.Native.Nat.{◌≤◌, ◌-◌, ◌+◌}
 use mathlib.Core.Bool.{true}
-use mathlib.Core.Path.{◌≡◌, sym, ◌∙◌}
-use borrow.Author.Tests.{not-true, not-false}
-use borrow.Author.Rules.{rules}
+use mathlib.Core.Path.{◌≡◌}
 use lib.ListN.{length, drop}
 use Rattle.columns.specs.Layout.{agreed}
-use Rattle.columns.proofs.Columns.{more, stop, done, line_done}
 use Rattle.columns.proofs.layout.count_agreeing.Given as goal
 
 abbrev pub invariant-loop-i : goal.invariant-loop-i

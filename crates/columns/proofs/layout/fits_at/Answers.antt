@@ -1,4 +1,3 @@
-use borrow.Author.Rules.{rules}
 use Rattle.columns.proofs.layout.fits_at.Goals as goal
 
 pub returns : goal.returns

@@ -1,8 +1,6 @@
 use mathlib.Core.Path.{sym, ◌∙◌}
-use Prim.Native.Nat.{◌≤◌, ◌-◌}
 use borrow.Author.Rules.{rules}
-use lib.ListN.{length}
-use Rattle.columns.proofs.Columns.{Kept, kept_all}
+use Rattle.columns.proofs.Columns.{kept_all}
 use Rattle.columns.proofs.ThreeSame.{plain_more, three}
 use Rattle.columns.proofs.layout.keeps_layout.Goals as goal
 

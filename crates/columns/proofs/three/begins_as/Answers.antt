@@ -1,4 +1,3 @@
-use borrow.Author.Rules.{rules}
 use Rattle.columns.proofs.three.begins_as.Goals as goal
 
 pub returns : goal.returns

@@ -1,9 +1,6 @@
-use borrow.Author.Rules.{rules}
 use native.Mathlib.Omega.{arith}
-use mathlib.Core.Path.{◌≡◌, refl, ◌∙◌}
-use Prim.Native.Nat.{◌-◌}
-use lib.ListN.{length, drop}
-use Rattle.text.proofs.Gone.{Gone, none, newline, more, end}
+use mathlib.Core.Path.{refl, ◌∙◌}
+use Rattle.text.proofs.Gone.{none, newline, more, end}
 use Rattle.text.proofs.input.gather.Goals as goal
 
 pub loop-i-init : goal.loop-i-init

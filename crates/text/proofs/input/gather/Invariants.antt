@@ -1,9 +1,7 @@
-use borrow.Author.Rules.{rules}
-use native.Mathlib.Omega.{arith}
-use mathlib.Core.Path.{◌≡◌, refl, ◌∙◌}
+use mathlib.Core.Path.{◌≡◌}
 use Prim.Native.Nat.{◌-◌}
 use lib.ListN.{length, drop}
-use Rattle.text.proofs.Gone.{Gone, none, newline, more, end}
+use Rattle.text.proofs.Gone.{Gone}
 use Rattle.text.proofs.input.gather.Given as goal
 
 abbrev pub invariant-loop-i : goal.invariant-loop-i

@@ -1,6 +1,5 @@
 use native.Mathlib.Omega.{arith}
 use Rattle.text.proofs.Pieces.{past}
-use borrow.Author.Rules.{rules}
 use Rattle.text.proofs.output.put_byte.Goals as goal
 
 pub returns-then-at-lt18446744073709551615 : goal.returns-then-at-lt18446744073709551615

@@ -1,9 +1,6 @@
 use borrow.Author.Rules.{rules}
 use native.Mathlib.Omega.{arith}
-use mathlib.Core.Path.{◌≡◌, refl, ◌∙◌}
-use Prim.Native.Nat.{◌≤◌, ◌-◌}
-use lib.ListN.{length, take}
-use Rattle.text.specs.Output.{Put}
+use mathlib.Core.Path.{refl, ◌∙◌}
 use Rattle.text.proofs.Pieces.{none, more, whole}
 use Rattle.text.proofs.output.put_bytes.Goals as goal
 

@@ -1,6 +1,5 @@
 use Rattle.text.specs.Output.{line}
 use Rattle.text.proofs.Pieces.{both}
-use borrow.Author.Rules.{rules}
 use Rattle.text.proofs.output.put_line.Goals as goal
 
 pub returns : goal.returns

@@ -1,4 +1,3 @@
-use borrow.Author.Rules.{rules}
 use Rattle.text.specs.Output.{pattern}
 use Rattle.text.proofs.output.put_number_pattern.Goals as goal
 

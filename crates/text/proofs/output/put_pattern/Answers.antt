@@ -1,6 +1,5 @@
 use Rattle.text.proofs.Floats.{number, no_number}
 use Rattle.text.proofs.Pieces.{same}
-use borrow.Author.Rules.{rules}
 use Rattle.text.proofs.output.put_pattern.Goals as goal
 
 pub put_number_pattern-requires : goal.put_number_pattern-requires

@@ -5,7 +5,6 @@ use Rattle.text.proofs.Pieces.{both, same}
 use Rattle.text.specs.Output.{decimal}
 use mathlib.Core.List.{◌∷◌}
 use mathlib.Core.Path.{sym, ap, ◌∙◌}
-use borrow.Author.Rules.{rules}
 use Rattle.text.proofs.output.put_signed.Goals as goal
 
 pub returns-then-v-lt0 : goal.returns-then-v-lt0

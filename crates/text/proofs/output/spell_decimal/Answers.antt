@@ -1,10 +1,7 @@
 use borrow.Author.Rules.{rules}
 use Rattle.text.proofs.Spell.{start, turn, end, fewer}
-use Rattle.text.specs.Output.{spell}
-use lib.ListN.{length, drop, length-set}
-use Prim.Native.Nat.{◌≤◌, ◌<◌, ◌-◌, ◌^◌}
-use mathlib.Core.List.{◌++◌}
-use mathlib.Core.Path.{◌≡◌, sym, ◌∙◌}
+use lib.ListN.{length-set}
+use mathlib.Core.Path.{sym, ◌∙◌}
 use native.Mathlib.Omega.{arith}
 use Rattle.text.proofs.output.spell_decimal.Goals as goal
 

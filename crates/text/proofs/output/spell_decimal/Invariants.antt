@@ -1,11 +1,8 @@
-use borrow.Author.Rules.{rules}
-use Rattle.text.proofs.Spell.{start, turn, end, fewer}
 use Rattle.text.specs.Output.{spell}
-use lib.ListN.{length, drop, length-set}
-use Prim.Native.Nat.{◌≤◌, ◌<◌, ◌-◌, ◌^◌}
+use lib.ListN.{length, drop}
+use Prim.Native.Nat.{◌≤◌, ◌<◌, ◌^◌}
 use mathlib.Core.List.{◌++◌}
-use mathlib.Core.Path.{◌≡◌, sym, ◌∙◌}
-use native.Mathlib.Omega.{arith}
+use mathlib.Core.Path.{◌≡◌}
 use Rattle.text.proofs.output.spell_decimal.Given as goal
 
 abbrev pub invariant-loop-rest : goal.invariant-loop-rest

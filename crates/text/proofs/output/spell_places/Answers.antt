@@ -1,11 +1,8 @@
 use native.Mathlib.Nat.{mod-lt}
 use borrow.Author.Rules.{rules}
 use Rattle.text.proofs.Spell.{glyph_start, glyph_turn, glyph_end}
-use Rattle.text.specs.Output.{places}
-use lib.ListN.{length, drop, length-set}
-use Prim.Native.Nat.{◌≤◌}
-use mathlib.Core.List.{◌++◌}
-use mathlib.Core.Path.{◌≡◌, refl, sym, ◌∙◌}
+use lib.ListN.{length-set}
+use mathlib.Core.Path.{refl, sym, ◌∙◌}
 use native.Mathlib.Omega.{arith}
 use Rattle.text.proofs.output.spell_places.Goals as goal
 

@@ -1,12 +1,8 @@
-use native.Mathlib.Nat.{mod-lt}
-use borrow.Author.Rules.{rules}
-use Rattle.text.proofs.Spell.{glyph_start, glyph_turn, glyph_end}
 use Rattle.text.specs.Output.{places}
-use lib.ListN.{length, drop, length-set}
+use lib.ListN.{length, drop}
 use Prim.Native.Nat.{◌≤◌}
 use mathlib.Core.List.{◌++◌}
-use mathlib.Core.Path.{◌≡◌, refl, sym, ◌∙◌}
-use native.Mathlib.Omega.{arith}
+use mathlib.Core.Path.{◌≡◌}
 use Rattle.text.proofs.output.spell_places.Given as goal
 
 abbrev pub invariant-loop-i : goal.invariant-loop-i

@@ -1,9 +1,6 @@
 use borrow.Author.Rules.{rules}
 use Rattle.text.proofs.Feeding.{turn, end}
-use Rattle.text.specs.Input.{fed}
-use lib.ListN.{length, drop}
-use Prim.Native.Nat.{◌≤◌, ◌-◌}
-use mathlib.Core.Path.{◌≡◌, refl, sym, ◌∙◌}
+use mathlib.Core.Path.{refl, sym, ◌∙◌}
 use native.Mathlib.Omega.{arith}
 use Rattle.text.proofs.input.Lines.feed.Goals as goal
 

@@ -1,10 +1,7 @@
-use borrow.Author.Rules.{rules}
-use Rattle.text.proofs.Feeding.{turn, end}
 use Rattle.text.specs.Input.{fed}
 use lib.ListN.{length, drop}
 use Prim.Native.Nat.{◌≤◌, ◌-◌}
-use mathlib.Core.Path.{◌≡◌, refl, sym, ◌∙◌}
-use native.Mathlib.Omega.{arith}
+use mathlib.Core.Path.{◌≡◌}
 use Rattle.text.proofs.input.Lines.feed.Given as goal
 
 abbrev pub invariant-loop-i : goal.invariant-loop-i

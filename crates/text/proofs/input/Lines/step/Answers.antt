@@ -1,6 +1,5 @@
 use Rattle.text.specs.Input.{stepped}
 use borrow.Author.Tests.{eq-eqb, ne_eqb}
-use borrow.Author.Rules.{rules}
 use Rattle.text.proofs.input.Lines.step.Goals as goal
 
 pub returns-then-byte-eq10 : goal.returns-then-byte-eq10

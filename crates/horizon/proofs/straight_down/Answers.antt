@@ -1,0 +1,8 @@
+use mathlib.Core.Path.{refl}
+use lib.Ieee.{round, units, odd, size, span, climb, of_bits, neg}
+use lib.Count.{count_trailing_zeros}
+use Rattle.horizon.proofs.straight_down.Goals as goal
+
+pub returns : goal.returns
+unfolding round units odd size span climb count_trailing_zeros of_bits neg
+returns c = refl

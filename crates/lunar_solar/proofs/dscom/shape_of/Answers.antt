@@ -1,0 +1,8 @@
+use lib.Ieee.{round, units, odd, size, span, climb, of_bits, neg}
+use lib.Count.{count_trailing_zeros}
+use Rattle.lunar_solar.specs.Dscom.{shape_of}
+use Rattle.lunar_solar.proofs.dscom.shape_of.Goals as goal
+
+pub returns : goal.returns
+unfolding shape_of round units odd size span climb count_trailing_zeros of_bits neg
+returns c = simp c.sqrt-rtemsq.ensures

@@ -1,0 +1,17 @@
+use mathlib.Core.Path.{sym, ap, ◌∙◌}
+use lib.Ieee.{round, units, odd, size, span, climb, of_bits, neg}
+use lib.Count.{count_trailing_zeros}
+use Rattle.sightings.specs.Sightings.{seen_since, seen_at}
+use Rattle.sightings.proofs.seen_at.Goals as goal
+
+pub returns-in-Is : goal.returns-in-Is
+unfolding seen_since seen_at
+returns-in-Is c =
+    let f = seen_since c.args.site c.args.satellite c.args.t.0 in
+    c.seen_since.ensures ∙ sym (ap f c.in-Is.is) ∙ ap f c.since-elapsed.ensures
+
+pub returns-in-Outside : goal.returns-in-Outside
+unfolding seen_since seen_at round units odd size span climb count_trailing_zeros of_bits neg
+returns-in-Outside c =
+    let f = seen_since c.args.site c.args.satellite c.args.t.0 in
+    sym (ap f c.in-Outside.is) ∙ ap f c.since-elapsed.ensures

@@ -1,0 +1,9 @@
+use mathlib.Core.Path.{refl}
+use lib.Ieee.{round, units, odd, size, span, climb, of_bits, neg}
+use lib.Count.{count_trailing_zeros}
+use Rattle.state.specs.Secular.{no_motion}
+use Rattle.state.proofs.secular.no_motion.Goals as goal
+
+pub returns : goal.returns
+unfolding no_motion round units odd size span climb count_trailing_zeros of_bits neg
+returns c = refl
