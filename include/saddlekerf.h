@@ -1,7 +1,7 @@
 /*
  * Saddlekerf for C and C++: two-line element sets and SGP4, proved bit for bit.
  *
- * Link with libsaddlekerf.a (`rt staticlib saddlekerf` writes it; x86-64 Linux). Of the C library it
+ * Link with libsaddlekerf.a (`./archive saddlekerf` writes it; x86-64 Linux). Of the C library it
  * calls memcpy and memset alone, and nothing that computes. Every function answers for all arguments
  * that keep the rules of memory below, in the floating-point environment below: no other input is
  * undefined.

@@ -3,7 +3,7 @@
  * 30 days after it, in little flash. Proved bit for bit: what it answers has the same bits as the full
  * library's answer (saddlekerf.h).
  *
- * Link with libsaddlekerf_profile.a (`rt staticlib saddlekerf_profile` writes it; x86-64 Linux). It needs
+ * Link with libsaddlekerf_profile.a (`./archive saddlekerf_profile` writes it; x86-64 Linux). It needs
  * nothing from outside, not even memcpy, and the header no hosted C library. Both archives may be
  * linked into one program.
  *

@@ -26,7 +26,7 @@ class Build(build_py):
             whole = ["-Wl,--whole-archive", str(ARCHIVE), "-Wl,--no-whole-archive"]
             subprocess.run(["cc", "-shared", "-o", str(LIBRARY), *whole], check=True)
         elif not LIBRARY.is_file():
-            raise SystemExit(f"no {ARCHIVE}: run `rt staticlib saddlekerf` in the repository first")
+            raise SystemExit(f"no {ARCHIVE}: run `./archive saddlekerf` in the repository first")
         super().run()
 
 

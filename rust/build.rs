@@ -1,4 +1,4 @@
-//! Links the archives that `rt staticlib saddlekerf` and, where the profile is asked for, `rt staticlib
+//! Links the archives that `./archive saddlekerf` and, where the profile is asked for, `./archive
 //! saddlekerf_profile` write in the repository.
 
 use std::path::Path;
@@ -8,7 +8,7 @@ fn link(folder: &Path, name: &str) {
     let archive = folder.join(format!("lib{name}.a"));
     println!("cargo:rerun-if-changed={}", archive.display());
     if !archive.is_file() {
-        eprintln!("no {}: run `rt staticlib {name}` in the repository first", archive.display());
+        eprintln!("no {}: run `./archive {name}` in the repository first", archive.display());
         exit(1);
     }
     println!("cargo:rustc-link-lib=static={name}");

@@ -149,6 +149,7 @@ class Turner:
     def __init__(self, crate, path, info, clauses):
         self.crate, self.path, self.info, self.clauses = crate, path, info, clauses
         self.steps, self.calls, self.places, self.olds, self.parents, self.helpers = {}, {}, {}, {}, {}, {}
+        self.arms = {}
         for old, parent, step, callee, _ in info["places"]:
             self.steps[norm(step[0])] = step[1]
             if callee:
@@ -158,6 +159,11 @@ class Turner:
             self.places[norm(row[0])] = by_name[k]
             self.olds[norm(row[0])] = row[0]
             self.parents[norm(row[0])] = norm(row[1]) if row[1] else None
+            arm = info["arms"][k]
+            if arm:
+                for field, old, way in arm[2]:
+                    if way and isinstance(old, str) and all(isinstance(x, str) for x in way):
+                        self.arms[(norm(old), "." + ".".join(way))] = f".{arm[0]}.{field}"
         self.own = path.split(".")[-1]
 
     def clause_path(self, step, kind):
@@ -169,6 +175,9 @@ class Turner:
         if not got:
             return []
         return nested(got[0 if kind == "requires" else 1])
+
+    def step_of(self, word):
+        return self.steps.get(norm(word)) or self.steps.get(norm(word).removesuffix("_lem"))
 
     def depth(self, place):
         k = 0
@@ -197,28 +206,41 @@ class Turner:
             return f"(lts.{self.olds[old]} tie.the-claims reads.Pre reads.Post)"
         t = re.sub(r"\btie\.(%s)" % WORD, place, t)
 
-        def step(m):
-            word = m.group(1)
-            new = self.steps.get(norm(word)) or self.steps.get(norm(word).removesuffix("_lem"))
-            return "." + new if new else m.group(0)
-        t = re.sub(r"\.(%s)" % WORD, step, t)
-        # every step before a place can be named from it
-        t = re.sub(r"(?:\.before)+\.(?!before)(?=%s)" % WORD, ".", t)
-
-        def alias(m):
-            name, rest = m.group(1), t[m.end():]
-            if re.search(r"(?<![.\w'-])%s(?:\.before)*(?![\w'.-])" % re.escape(name), rest):
-                return m.group(0)
-            return f"let {name} = {m.group(2)} in"
-        t = re.sub(r"let (%s) = (%s)(?:\.before)+ in" % (WORD, WORD), alias, t)
-        # a step that has a name of its own is written out
+        # a place that has a name of its own, and only says where steps are looked up, is written out
         while True:
-            m = re.search(r"let (%s) = ((?:%s)\.(%s)) in\s*" % (WORD, WORD, WORD), t)
-            while m and (m.group(3) not in self.steps.values() or re.search(r"(?<![.\w'-])%s(?![\w'.-])" % re.escape(m.group(1)), t[m.end():])):
-                m = re.compile(r"let (%s) = ((?:%s)\.(%s)) in\s*" % (WORD, WORD, WORD)).search(t, m.end())
-            if not m:
+            for m in reversed(list(re.finditer(r"let (%s) = (%s)(?:\.before)*(\.args)? in\s*" % (WORD, WORD), t))):
+                name, rest = m.group(1), t[m.end():]
+                if m.group(2)[0].isalpha() and not re.search(r"(?<![.\w'-])%s(?:\.before)*(?![\w'.-])" % re.escape(name), rest):
+                    t = t[:m.start()] + re.sub(r"(?<![.\w'-])%s(?=\.)" % re.escape(name), m.group(2) + (m.group(3) or ""), rest)
+                    break
+            else:
                 break
-            t = t[:m.start()] + re.sub(r"(?<![.\w'-])%s(?=\.)" % re.escape(m.group(1)), lambda _: m.group(2), t[m.end():])
+        def arm(m):
+            rest = m.group(2)
+            for (old, path), new in sorted(self.arms.items(), key=lambda a: -len(a[0][1])):
+                if old == norm(m.group(1)) and rest.startswith(path) and (len(rest) == len(path) or rest[len(path)] == "."):
+                    return new + rest[len(path):]
+            return m.group(0)
+        t = re.sub(r"\.(?!before\b)(%s)((?:\.[\w']+)+)" % WORD, arm, t)
+
+        # so is a step
+        places = WORD + r"(?:\.before)*"
+        while True:
+            for m in reversed(list(re.finditer(r"let (%s) = ((%s)\.(%s)(?:\.ensures)?) in\s*" % (WORD, places, WORD), t))):
+                name, rest = m.group(1), t[m.end():]
+                if self.step_of(m.group(4)) and not re.search(r"(?<![.\w'-])%s(?![\w'.-])" % re.escape(name), rest):
+                    t = t[:m.start()] + re.sub(r"(?<![.\w'-])%s(?=\.)" % re.escape(name), lambda _: m.group(2), rest)
+                    break
+            else:
+                break
+        others = set(re.findall(r"let (%s) = (?!%s in)" % (WORD, places), t)) | set(re.findall(r"λ \(?(%s)" % WORD, t))
+        # every step before a place can be named from it
+
+        def step(m):
+            if m.group(1) in others or not m.group(1)[0].isalpha():
+                return m.group(0)
+            return f"{m.group(1)}.{self.step_of(m.group(2)) or m.group(2)}"
+        t = re.sub(r"(?<![.\w'-])(%s)(?:\.before)*\.(?!before\b)(%s)" % (WORD, WORD), step, t)
 
         def ensures(m):
             for num, name in self.clause_path(m.group(1), m.group(2)):
@@ -237,6 +259,7 @@ class Turner:
         # the condition of `if !f(x)` is a fact of f(x) itself
         t = re.sub(r"\bnot[-_](?:true|false) (?:_|\([^()]*\)|%s(?:\.%s)*) (c(?:\.%s)*\.if-not-%s\.(?:true|false))" % (WORD, WORD, WORD, WORD), r"\1", t)
 
+        t = t.replace(".type-inv", ".type_inv")
         own = self.clauses.get((self.crate, self.own))
         if own and len(own[0]) > 1:
             def requires(m):
@@ -250,33 +273,39 @@ class Turner:
 
 
 def tupled(body, names):
-    """A body that is, after its lets, a tuple of as many parts as clauses, as a record; else None."""
-    m = re.match(r"((?:.|\n)*\bin\s+)?(\((?:.|\n)*\))\s*$", body)
-    if not m:
-        return None
-    head, t = m.group(1) or "", m.group(2)
-    if split_args(t) != [t]:
-        return None
-    parts, depth, last = [], 0, 1
-    for k, ch in enumerate(t):
-        if ch in "({[":
-            depth += 1
-        elif ch in ")}]":
-            depth -= 1
-            if depth == 0 and k < len(t) - 1:
+    """A body that proves all clauses as nested pairs, as a record of them by name."""
+    at = 0
+    while True:
+        m = re.compile(r"\s*let\b").match(body, at)
+        if not m:
+            break
+        depth, k = 0, m.end()
+        while not (depth == 0 and re.compile(r"\bin\b(?![\w'-])").match(body, k) and not body[k - 1] in "-_"):
+            if re.compile(r"\blet\b").match(body, k):
+                depth += 1
+            elif re.compile(r"\bin\b(?![\w'-])").match(body, k) and not body[k - 1] in "-_":
+                depth -= 1
+            k += 1
+            if k >= len(body):
                 return None
-        elif ch == "," and depth == 1:
-            parts.append(t[last:k].strip())
-            last = k + 1
-    parts.append(t[last:-1].strip())
+        at = k + 2
+    head, t = body[:at], body[at:].strip()
+    parts = tuple_parts(t) or [t]
     while len(parts) < len(names):
         inner = tuple_parts(parts[-1])
         if inner is None:
-            return None
+            break
         parts = parts[:-1] + inner
     if len(parts) > len(names):
         rest = parts[len(names) - 1:]
         parts = parts[:len(names) - 1] + ["(" + ", ".join(rest) + ")"]
+    if head and not head[-1].isspace():
+        head += "\n    "
+    if len(parts) < len(names):
+        left = names[len(parts) - 1:]
+        head += f"let rest = {parts[-1]} in\n    "
+        n = len(left)
+        parts = parts[:-1] + ["rest" + ".1" * k + (".0" if k < n - 1 else "") for k in range(n)]
     return head + "record { " + "; ".join(f"{n} = {p}" for n, p in zip(names, parts)) + " }"
 
 
@@ -295,13 +324,13 @@ def tuple_parts(t):
     if not parts:
         return None
     parts.append(t[last:-1].strip())
-    return parts
+    return [x for x in parts if x]
 
 
 def binder_sub(body, table):
     def one(m):
         return table.get(m.group(0), m.group(0))
-    return re.sub(r"(?<![.\w'₀-])%s" % WORD, one, body)
+    return re.sub(r"(?<![.\w'₀-])%s(?!\s+=\s)" % WORD, one, body)
 
 
 def is_trivial(arg, unfolding):
@@ -354,7 +383,8 @@ def align(args, needs, by_name):
         else:
             rest = [w for w in waiting if not is_trivial(w, "")]
             if rest and len(rest) != len(room):
-                return f"answers {[w[:40] for w in rest]} for goals {[needs[k][0] for k in room]}"
+                print(f"dropped: {[w[:60] for w in rest]} for goals {[needs[k][0] for k in room]}")
+                rest = []
             for k, w in zip(room, rest):
                 out[k] = w
         waiting = []

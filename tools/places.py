@@ -52,3 +52,11 @@ for path, spots in far.items():
             lines[row - 1] = lines[row - 1][:m.end()] + ".before" + lines[row - 1][m.end():]
             print("mended", file, row)
     open(file, "w").write("\n".join(lines))
+near = re.compile(r"(\./\S+\.antt):(\d+):(\d+): error: .*?has no field `([^`]+)` \(nearest: \.([^\s,)]+)")
+for m in near.finditer(whole):
+    if m.group(4).replace("-", "_") == m.group(5).replace("-", "_"):
+        file = os.path.join("crates", crate, m.group(1))
+        lines = open(file).read().split("\n")
+        lines[int(m.group(2)) - 1] = re.sub(r"\.%s(?![\w'-])" % re.escape(m.group(4)), "." + m.group(5), lines[int(m.group(2)) - 1])
+        open(file, "w").write("\n".join(lines))
+        print("mended", file)

@@ -1,6 +1,6 @@
 //! Two-line element sets and SGP4, proved bit for bit.
 //!
-//! A safe wrapper of the proved library, which `rt staticlib saddlekerf` writes as an archive for
+//! A safe wrapper of the proved library, which `./archive saddlekerf` writes as an archive for
 //! x86-64 Linux. It adds types and borrows, no arithmetic: every number comes out of the archive.
 //!
 //! ```

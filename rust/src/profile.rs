@@ -1,7 +1,7 @@
 //! The dish controller's profile: near-Earth satellites, from the epoch to 30 days after it.
 //!
 //! What it answers has the same bits as the full library's answer. It comes from an archive of its own,
-//! which `rt staticlib saddlekerf_profile` writes; the package's feature `profile` links it.
+//! which `./archive saddlekerf_profile` writes; the package's feature `profile` links it.
 
 use crate::ffi::profile as ffi;
 use crate::refusal::{Answer as Packed, Refusal};

@@ -36,7 +36,7 @@ ColumnFits Numbers = Unit {0}
 ColumnFits (Range field) = Unit {0}
 ColumnFits NoForm = Unit {0}
 
--- a refusal whose column is cut to the bits that an answer has for it; of one that fits it is the refusal itself, `Fits-bits` of proofs/Columns
+-- a refusal whose column is cut to the bits that an answer has for it; of one that fits it is the refusal itself, `fits_bits` of proofs/Columns
 unfoldable pub in_bits : Refusal → Refusal
 in_bits (Length line) = Length line
 in_bits (Start line) = Start line

@@ -38,7 +38,7 @@ fn field_number(field: Field) -> u16
     }
 }
 
-// A refusal of reading with its values. Every column that reading gives fits its bits (`Fits-bits` of
+// A refusal of reading with its values. Every column that reading gives fits its bits (`fits_bits` of
 // proofs/Columns).
 pub fn refusal_answer(why: Refusal) -> u64
     ensures { result ≡ refusal_answer (in_bits why) }

@@ -1,13 +1,11 @@
 -- Lines of a plan, each by computation.
-use Rattle.std.specs.Prelude.{ℕ, ◌≡◌, refl, List, [], ◌∷◌, true, false}
-use Rattle.std.proofs.lemmas.List.Edits.{sets}
+use Rattle.std.specs.Prelude.{◌≡◌, refl, true, false}
 use Rattle.text.specs.Output.{bytes, spell}
 use Rattle.request_line.specs.Request.{begun}
 use Rattle.number_list.specs.Numbers.{read_on, numbers_of, count_of}
 use Rattle.award.specs.declared.Answer.TheVariants as answer
-use Rattle.award_text.specs.declared.Draft.{Draft}
 use Rattle.award_text.specs.Text.{started, unread, label_of, in_place, advanced, placed, taken}
-use Rattle.award_text.specs.Print.{refusal_text, refusal_at_text, answer_text}
+use Rattle.award_text.specs.Print.{refusal_at_text, answer_text}
 
 an_offer : taken started (bytes "offer 1 0 86400000000 5") 1282 ≡ record { at = 4; offers = 4; entries = 0; stage = 0; taken = true; faulty = false; long = false }
 unfolding taken label_of begun numbers_of read_on count_of in_place placed advanced

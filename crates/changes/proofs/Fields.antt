@@ -1,12 +1,12 @@
 -- The differences of two records, applied to the first, give the second.
-use Prim.Native.Nat.{ℕ, suc, ◌+◌, ◌-◌, ◌*◌, ◌/◌, ◌%◌}
+use Prim.Native.Nat.{ℕ, suc, ◌-◌, ◌*◌, ◌/◌, ◌%◌}
 use mathlib.Core.Path.{◌≡◌, refl, ap, sym, ◌∙◌}
 use mathlib.Core.Bool.{Bool, true, false, cond, ◌&&◌}
 use mathlib.Core.List.{List, [], ◌++◌}
 use native.Mathlib.Omega.{arith}
 use borrow.Author.Tests.{ltb-true, ltb-false, le-ltb, eqb-true}
 use lib.Dec.{eqb, ltb}
-use lib.IntN.{ℤ, pos, negsuc, sub_ℕ, ◌+ℤ◌, ◌-ℤ◌, -ℤ-+ℤ_cancel}
+use lib.IntN.{ℤ, pos, negsuc, sub_ℕ, ◌-ℤ◌, -ℤ-+ℤ_cancel}
 use Rattle.instant.specs.Calendar.{year_in_range, unit_micros, date_of}
 use Rattle.instant.specs.declared.Dated.{Dated}
 use Rattle.instant.specs.declared.Dated.TheVariants as dated
@@ -22,7 +22,7 @@ use Rattle.tle_writer.proofs.Facts.{Facts}
 use Rattle.tle.specs.Read.{letter}
 use Rattle.roster.specs.Records.{instant_of}
 use Rattle.tle_writer.proofs.Facts.{both}
-use Rattle.changes.specs.Entry.{Count, Ephemeris, Element, Inclination, Node, Eccentricity, Perigee, Anomaly, Motion, Revolution, count, Entry, Classes, Designators, Epochs, Ndots, Nddots, Bstars, Counts, sameℤ, same_class, same_designator, same_scaled, unless, differences, moved, year_in, day_in, patch, patch_all}
+use Rattle.changes.specs.Entry.{Count, Ephemeris, Element, Inclination, Node, Eccentricity, Perigee, Anomaly, Motion, Revolution, Entry, Classes, Designators, Epochs, Ndots, Nddots, Bstars, Counts, sameℤ, same_class, same_designator, same_scaled, unless, differences, moved, year_in, day_in, patch, patch_all}
 
 -- ── values that are the same are equal ──
 

@@ -1,7 +1,6 @@
 // What changed between two rosters (document 02, wish 7): text lines by rising catalogue number into a lent room.
 #![tactic(auto)]
 
-
 ghost use Rattle.std.specs.Prelude.{◌≡◌, cond, [], ◌∷◌, ◌++◌, ◌*◌, ◌<◌, eqb, ltb, length, take, drop};
 ghost use Rattle.text.specs.Output.{Put};
 ghost use Rattle.listing.specs.Listing.{then};

@@ -1,5 +1,5 @@
 -- The request lines of `ephemeris`: those of `replay`, `grid START STEP COUNT` and `at YEAR DAY MICROSECONDS`. Definitions only.
-use Rattle.std.specs.Prelude.{ℕ, ◌*◌, min, Bool, cond, ◌&&◌, List, [], ◌∷◌, ◌++◌, leb, eqb, ℤ, pos, ◌+ℤ◌, length, drop}
+use Rattle.std.specs.Prelude.{ℕ, ◌*◌, min, Bool, cond, ◌&&◌, List, ◌++◌, leb, eqb, ℤ, pos, ◌+ℤ◌, length, drop}
 use Rattle.text.specs.Output.{bytes, decimal}
 use Rattle.request_line.specs.Times.{signed}
 use Rattle.request_line.specs.Request.{begun, request_of}

@@ -1,7 +1,6 @@
 // The lines of the fields in which two pairs of one number differ.
 #![tactic(auto)]
 
-
 ghost use Rattle.std.specs.Prelude.{◌≡◌, true, [], ◌∷◌, ◌<◌, ◌^◌, eqb, ◌-ℤ◌, nat_abs};
 ghost use Rattle.std.proofs.Math.IntN.{sub_ℕ};
 ghost use Rattle.text.specs.Output.{Put, bytes, signed};

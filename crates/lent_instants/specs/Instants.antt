@@ -1,5 +1,5 @@
 -- Instants for C and Rust: what a move, a date and the instant of a date answer, and what they leave in lent memory. Definitions only.
-use Rattle.std.specs.Prelude.{ℕ, ◌*◌, List, [], ◌∷◌, cond, leb, ltb, pos, length, set}
+use Rattle.std.specs.Prelude.{ℕ, ◌*◌, List, cond, leb, ltb, pos, length, set}
 use Rattle.instant.specs.Calendar.{day_micros, epoch_of}
 use Rattle.instant.specs.Move.{move_of}
 use Rattle.instant.specs.declared.Epoch.{Epoch}

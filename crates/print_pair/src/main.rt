@@ -14,11 +14,11 @@ struct Turn {
     more: bool,
 }
 
-fn read_more(failed: &mut bool, lines: Lines) -> Turn
+fn read_more(rt: HostRuntime, failed: &mut bool, lines: Lines) -> Turn
     ensures { More lines result.lines }
 {
-    let mut buffer = io::buffer();
-    let n = streams::read(failed, &mut buffer);
+    let mut buffer = [0u8; 4096];
+    let n = streams::read(rt, failed, &mut buffer);
     if n == 0 {
         return Turn { lines, more: false };
     }
@@ -32,13 +32,13 @@ fn read_more(failed: &mut bool, lines: Lines) -> Turn
 
 // A proved loop has to end, and nothing says that the input does. So it counts its turns down, from a
 // number that no run uses up.
-fn read_lines(failed: &mut bool) -> Lines
+fn read_lines(rt: HostRuntime, failed: &mut bool) -> Lines
     ensures { More started result }
 {
     let mut lines = Lines::start();
     let mut turns = u64::MAX;
     while turns > 0 {
-        let turn = read_more(failed, lines);
+        let turn = read_more(rt, failed, lines);
         lines = turn.lines;
         if !turn.more {
             return lines;
@@ -49,15 +49,15 @@ fn read_lines(failed: &mut bool) -> Lines
 }
 
 // The buffer of 4096 bytes has room for every pair's text, which is 900 bytes at most.
-fn main() {
+fn main(rt: HostRuntime) {
     let mut failed = false;
-    let lines = read_lines(&mut failed);
-    let mut out = io::buffer();
+    let lines = read_lines(rt, &mut failed);
+    let mut out = [0u8; 4096];
     let printed = listing::print_lines(lines, &mut out);
     let Printed::Written(n) = printed else {
         return;
     };
     if n <= 4096 {
-        streams::print(&mut failed, &out[0..n]);
+        streams::print(rt, &mut failed, &out[0..n]);
     }
 }

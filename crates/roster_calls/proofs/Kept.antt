@@ -1,13 +1,13 @@
 -- Every call keeps a roster a roster and its row the row, and what stands in a place, read, is the record that was lodged.
-use Prim.Native.Nat.{ℕ, zero, suc, ◌+◌, ◌<◌, ◌≤◌}
+use Prim.Native.Nat.{ℕ, ◌<◌, ◌≤◌}
 use mathlib.Core.Path.{◌≡◌, refl, ap, sym, ◌∙◌}
 use mathlib.Core.Bool.{Bool, true, false, cond}
 use mathlib.Core.List.{List, [], ◌∷◌, ◌++◌}
-use mathlib.Core.Option.{Option, none, some, some-injective, none-ne-some}
+use mathlib.Core.Option.{Option, none, some}
 use native.Mathlib.Omega.{arith}
 use borrow.Author.Tests.{leb-false, eq-eqb}
 use lib.Dec.{eqb, leb, ltb}
-use lib.ListN.{length, take, drop, get_elem?, length-append}
+use lib.ListN.{length, get_elem?, length-append}
 use Rattle.tle.specs.Legal.{legal}
 use Rattle.tle.specs.Read.{read_of}
 use Rattle.tle.specs.declared.Record.{Record}
@@ -15,7 +15,7 @@ use Rattle.tle.specs.declared.Refusal.{Refusal}
 use Rattle.tle.specs.declared.Reading.{Reading}
 use Rattle.tle.specs.declared.Reading.TheVariants as reading
 use Rattle.tle.proofs.Accepted.{accepted_are_legal}
-use Rattle.roster.specs.Records.{Rising, end, next, lookup, instant_of, lodged, withdrawn}
+use Rattle.roster.specs.Records.{Rising, lookup, instant_of, lodged, withdrawn}
 use Rattle.roster.specs.Roster.{bytes_of, roster_of}
 use Rattle.roster.specs.Row.{row_of, roster_with}
 use Rattle.roster.specs.Claims.{read_at}
@@ -73,7 +73,7 @@ pub room_after : (r : Record) (rs : List Record) → View r.number rs → length
 room_after r rs (here S) h v =
     rw (S.lodges r refl) (omega (arith, length-append S.xs (r ∷ S.zs), length-append S.xs (S.s ∷ S.zs), ap length S.cut))
 room_after r rs (away M) h v =
-    let few = room_left (leb 64 (length rs)) (length rs) refl (rw M.None-found at v) in
+    let few = room_left (leb 64 (length rs)) (length rs) refl (rw M.none_found at v) in
     rw (M.lodges r refl) (omega (arith, length-append M.xs (r ∷ M.ys), length-append M.xs M.ys, ap length M.cut))
 
 -- a buffer and a row that hold the same records are a roster and its row

@@ -2,7 +2,6 @@
 // withdrawing, and filling the row of a roster that was kept without one. Crate roster has what both are.
 #![tactic(auto)]
 
-
 ghost use Rattle.std.specs.Prelude.{◌≡◌, true};
 ghost use Rattle.tle.specs.Legal.{legal};
 ghost use Rattle.tle.specs.declared.Reading.TheVariants as reading;

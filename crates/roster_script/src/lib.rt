@@ -1,7 +1,6 @@
 // A whole script of calls, run on a roster in a lent buffer and the row beside it: the total of running code.
 #![tactic(auto)]
 
-
 ghost use Rattle.std.specs.Prelude.{◌≡◌, ◌++◌, ◌+◌, ◌/◌, ◌≤◌, leb, ltb, length, drop};
 ghost use Rattle.roster_script.specs.Total.{lent, answer_to, after, answers_to, after_all};
 ghost use Rattle.roster_script.specs.Script.{call_of, taken, script, needed, ran_number, Post};

@@ -12,19 +12,19 @@ fn put_weight(out: &mut [u8], byte: u8) -> usize {
     put_byte(out, p, b'\n')
 }
 
-fn print_weight(failed: &mut bool, byte: u8) {
+fn print_weight(rt: HostRuntime, failed: &mut bool, byte: u8) {
     let mut out = [0u8; 8];
     let size = put_weight(&mut out, byte);
     if size <= 8 {
-        streams::print(failed, &out[0..size]);
+        streams::print(rt, failed, &out[0..size]);
     }
 }
 
-fn main() {
+fn main(rt: HostRuntime) {
     let mut failed = false;
     let mut value: u16 = 0;
     while value < 256 {
-        print_weight(&mut failed, value as u8);
+        print_weight(rt, &mut failed, value as u8);
         value += 1;
     }
 }

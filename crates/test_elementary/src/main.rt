@@ -25,43 +25,43 @@ const UNKNOWN: u8 = 5;
 
 const COMMENT: u8 = 6;
 
-fn print_first(failed: &mut bool, input: &[u8], t: Tally) {
+fn print_first(rt: HostRuntime, failed: &mut bool, input: &[u8], t: Tally) {
     let from = t.from;
     let to = t.to;
     if from < to {
         if to <= input.len() {
-            print(failed, b"  first: ");
-            print(failed, &input[from..to]);
-            print(failed, b"\n");
+            print(rt, failed, b"  first: ");
+            print(rt, failed, &input[from..to]);
+            print(rt, failed, b"\n");
         }
     }
 }
 
-fn report(failed: &mut bool, input: &[u8], name: &[u8], which: u8) {
+fn report(rt: HostRuntime, failed: &mut bool, input: &[u8], name: &[u8], which: u8) {
     let t = count_lines(input, which);
-    print(failed, name);
-    streams::print_decimal(failed, t.lines);
-    print(failed, b" compared, ");
-    streams::print_decimal(failed, t.differ);
-    print(failed, b" differ\n");
-    print_first(failed, input, t);
+    print(rt, failed, name);
+    streams::print_decimal(rt, failed, t.lines);
+    print(rt, failed, b" compared, ");
+    streams::print_decimal(rt, failed, t.differ);
+    print(rt, failed, b" differ\n");
+    print_first(rt, failed, input, t);
 }
 
-fn report_unknown(failed: &mut bool, input: &[u8]) {
+fn report_unknown(rt: HostRuntime, failed: &mut bool, input: &[u8]) {
     let t = count_lines(input, UNKNOWN);
-    print(failed, b"not read: ");
-    streams::print_decimal(failed, t.lines);
-    print(failed, b"\n");
-    print_first(failed, input, t);
+    print(rt, failed, b"not read: ");
+    streams::print_decimal(rt, failed, t.lines);
+    print(rt, failed, b"\n");
+    print_first(rt, failed, input, t);
 }
 
-fn report_all(failed: &mut bool, input: &[u8]) {
-    report(failed, input, b"sqrt: ", SQRT);
-    report(failed, input, b"cbrt: ", CBRT);
-    report(failed, input, b"sin: ", SIN);
-    report(failed, input, b"cos: ", COS);
-    report(failed, input, b"atan2: ", ATAN2);
-    report_unknown(failed, input);
+fn report_all(rt: HostRuntime, failed: &mut bool, input: &[u8]) {
+    report(rt, failed, input, b"sqrt: ", SQRT);
+    report(rt, failed, input, b"cbrt: ", CBRT);
+    report(rt, failed, input, b"sin: ", SIN);
+    report(rt, failed, input, b"cos: ", COS);
+    report(rt, failed, input, b"atan2: ", ATAN2);
+    report_unknown(rt, failed, input);
 }
 
 // A room of its own function is an array of that size to its caller, and not a list of so many zeros.
@@ -69,13 +69,13 @@ fn room() -> [u8; 524288] {
     [0; 524288]
 }
 
-fn main() {
+fn main(rt: HostRuntime) {
     let mut failed = false;
     let mut space = room();
-    let n = streams::read_all(&mut failed, &mut space);
+    let n = streams::read_all(rt, &mut failed, &mut space);
     if n == 524288 {
-        print(&mut failed, b"the input is too long\n");
+        print(rt, &mut failed, b"the input is too long\n");
         return;
     }
-    report_all(&mut failed, &space[..n]);
+    report_all(rt, &mut failed, &space[..n]);
 }

@@ -331,9 +331,9 @@ struct Turn {
     more: bool,
 }
 
-fn read_more(failed: &mut bool, r: Run) -> Turn {
-    let mut buffer = io::buffer();
-    let n = streams::read(failed, &mut buffer);
+fn read_more(rt: HostRuntime, failed: &mut bool, r: Run) -> Turn {
+    let mut buffer = [0u8; 4096];
+    let n = streams::read(rt, failed, &mut buffer);
     if n == 0 {
         return Turn {
             run: r,
@@ -346,11 +346,11 @@ fn read_more(failed: &mut bool, r: Run) -> Turn {
 
 // A proved loop has to end, and nothing says that the input does. So it counts its turns down, from a
 // number that no run uses up.
-fn read_all(failed: &mut bool, r: Run) -> Run {
+fn read_all(rt: HostRuntime, failed: &mut bool, r: Run) -> Run {
     let mut run = r;
     let mut turns = u64::MAX;
     while turns > 0 {
-        let t = read_more(failed, run);
+        let t = read_more(rt, failed, run);
         run = t.run;
         if !t.more {
             return run;
@@ -360,43 +360,43 @@ fn read_all(failed: &mut bool, r: Run) -> Run {
     run
 }
 
-fn print_counts(failed: &mut bool, compared: u64, differ: u64, first: u64) {
-    streams::print_decimal(failed, compared);
-    streams::print(failed, b" compared, ");
-    streams::print_decimal(failed, differ);
-    streams::print(failed, b" differ");
+fn print_counts(rt: HostRuntime, failed: &mut bool, compared: u64, differ: u64, first: u64) {
+    streams::print_decimal(rt, failed, compared);
+    streams::print(rt, failed, b" compared, ");
+    streams::print_decimal(rt, failed, differ);
+    streams::print(rt, failed, b" differ");
     if differ > 0 {
-        streams::print(failed, b", the first in line ");
-        streams::print_decimal(failed, first);
+        streams::print(rt, failed, b", the first in line ");
+        streams::print_decimal(rt, failed, first);
     }
-    streams::print(failed, b"\n");
+    streams::print(rt, failed, b"\n");
 }
 
-fn print_tally(failed: &mut bool, label: &[u8], t: Tallies, op: usize)
+fn print_tally(rt: HostRuntime, failed: &mut bool, label: &[u8], t: Tallies, op: usize)
     requires { op < 11 }
 {
     let compared = t.compared;
     let differ = t.differ;
     let first = t.first;
-    streams::print(failed, label);
-    print_counts(failed, compared[op], differ[op], first[op]);
+    streams::print(rt, failed, label);
+    print_counts(rt, failed, compared[op], differ[op], first[op]);
 }
 
-fn print_tallies(failed: &mut bool, t: Tallies) {
-    print_tally(failed, b"epoch: ", t, 0);
-    print_tally(failed, b"split: ", t, 1);
-    print_tally(failed, b"move: ", t, 2);
-    print_tally(failed, b"since: ", t, 3);
-    print_tally(failed, b"minutes: ", t, 4);
-    print_tally(failed, b"days: ", t, 5);
-    print_tally(failed, b"jd: ", t, 6);
-    print_tally(failed, b"gst: ", t, 7);
-    print_tally(failed, b"twice: ", t, 8);
-    print_tally(failed, b"back: ", t, 9);
-    print_tally(failed, b"unreadable: ", t, 10);
+fn print_tallies(rt: HostRuntime, failed: &mut bool, t: Tallies) {
+    print_tally(rt, failed, b"epoch: ", t, 0);
+    print_tally(rt, failed, b"split: ", t, 1);
+    print_tally(rt, failed, b"move: ", t, 2);
+    print_tally(rt, failed, b"since: ", t, 3);
+    print_tally(rt, failed, b"minutes: ", t, 4);
+    print_tally(rt, failed, b"days: ", t, 5);
+    print_tally(rt, failed, b"jd: ", t, 6);
+    print_tally(rt, failed, b"gst: ", t, 7);
+    print_tally(rt, failed, b"twice: ", t, 8);
+    print_tally(rt, failed, b"back: ", t, 9);
+    print_tally(rt, failed, b"unreadable: ", t, 10);
 }
 
-fn main() {
+fn main(rt: HostRuntime) {
     let tallies = Tallies {
         lines: 0,
         compared: [0; 11],
@@ -405,6 +405,7 @@ fn main() {
     };
     let mut failed = false;
     let run = read_all(
+        rt,
         &mut failed,
         Run {
             line: no_line(),
@@ -415,8 +416,8 @@ fn main() {
     let tallies = run.tallies;
     // A last line without its newline.
     if line.name != 0 {
-        print_tallies(&mut failed, tallied(tallies, line));
+        print_tallies(rt, &mut failed, tallied(tallies, line));
         return;
     }
-    print_tallies(&mut failed, tallies);
+    print_tallies(rt, &mut failed, tallies);
 }

@@ -14,7 +14,7 @@ fn written(r: Record, which: Line, room: &mut [u8], why: &mut u8) -> u64 {
     part.len() as u64
 }
 
-fn print_room(failed: &mut bool, why: u8, handed: u64, room: &[u8]) {
+fn print_room(rt: HostRuntime, failed: &mut bool, why: u8, handed: u64, room: &[u8]) {
     let mut out = [0u8; 128];
     let p = put_decimal(&mut out, 0, why as u64);
     let p = put_byte(&mut out, p, b' ');
@@ -23,80 +23,80 @@ fn print_room(failed: &mut bool, why: u8, handed: u64, room: &[u8]) {
     let p = put_bytes(&mut out, p, room);
     let n = put_byte(&mut out, p, b'\n');
     if n <= 128 {
-        streams::print(failed, &out[0..n]);
+        streams::print(rt, failed, &out[0..n]);
     }
 }
 
-fn print_longer(failed: &mut bool, r: Record, which: Line) {
+fn print_longer(rt: HostRuntime, failed: &mut bool, r: Record, which: Line) {
     let mut room = [b'#'; 80];
     let mut why = 255;
     let handed = written(r, which, &mut room, &mut why);
-    print_room(failed, why, handed, &room);
+    print_room(rt, failed, why, handed, &room);
 }
 
-fn print_exact(failed: &mut bool, r: Record, which: Line) {
+fn print_exact(rt: HostRuntime, failed: &mut bool, r: Record, which: Line) {
     let mut room = [b'#'; 69];
     let mut why = 255;
     let handed = written(r, which, &mut room, &mut why);
-    print_room(failed, why, handed, &room);
+    print_room(rt, failed, why, handed, &room);
 }
 
-fn print_short(failed: &mut bool, r: Record, which: Line) {
+fn print_short(rt: HostRuntime, failed: &mut bool, r: Record, which: Line) {
     let mut room = [b'#'; 68];
     let mut why = 255;
     let handed = written(r, which, &mut room, &mut why);
-    print_room(failed, why, handed, &room);
+    print_room(rt, failed, why, handed, &room);
 }
 
 // With another epoch.
-fn print_on(failed: &mut bool, r: Record, which: Line, year: u64, day: u64) {
+fn print_on(rt: HostRuntime, failed: &mut bool, r: Record, which: Line, year: u64, day: u64) {
     let mut other = r;
     other.year = year;
     other.day = day;
-    print_longer(failed, other, which);
+    print_longer(rt, failed, other, which);
 }
 
-fn print_line(failed: &mut bool, r: Record, which: Line) {
-    print_longer(failed, r, which);
-    print_exact(failed, r, which);
-    print_short(failed, r, which);
+fn print_line(rt: HostRuntime, failed: &mut bool, r: Record, which: Line) {
+    print_longer(rt, failed, r, which);
+    print_exact(rt, failed, r, which);
+    print_short(rt, failed, r, which);
     let mut beyond = r;
     beyond.inclination = 1800001;
-    print_longer(failed, beyond, which);
+    print_longer(rt, failed, beyond, which);
     let mut beyond = r;
     beyond.number = 340000;
-    print_longer(failed, beyond, which);
-    print_on(failed, r, which, 2001, 36600000000);
-    print_on(failed, r, which, 2055, 36699999999);
-    print_on(failed, r, which, 2000, 36700000000);
+    print_longer(rt, failed, beyond, which);
+    print_on(rt, failed, r, which, 2001, 36600000000);
+    print_on(rt, failed, r, which, 2055, 36699999999);
+    print_on(rt, failed, r, which, 2000, 36700000000);
 }
 
-fn print_pair(failed: &mut bool, line1: &[u8], line2: &[u8]) {
+fn print_pair(rt: HostRuntime, failed: &mut bool, line1: &[u8], line2: &[u8]) {
     let form = tle::read_form(line1, line2);
     let Form::Fields(fields) = form else {
-        streams::print(failed, b"refused\n");
+        streams::print(rt, failed, b"refused\n");
         return;
     };
     match tle::read_meaning(fields) {
         Reading::Record(r) => {
-            print_line(failed, r, Line::One);
-            print_line(failed, r, Line::Two);
+            print_line(rt, failed, r, Line::One);
+            print_line(rt, failed, r, Line::Two);
         }
-        Reading::Refused(_) => streams::print(failed, b"refused\n"),
+        Reading::Refused(_) => streams::print(rt, failed, b"refused\n"),
     }
 }
 
-fn print_pairs(failed: &mut bool, s: &[u8]) {
+fn print_pairs(rt: HostRuntime, failed: &mut bool, s: &[u8]) {
     let mut at = 0;
     while s.len() - at >= 140 {
-        print_pair(failed, &s[at..at + 69], &s[at + 70..at + 139]);
+        print_pair(rt, failed, &s[at..at + 69], &s[at + 70..at + 139]);
         at += 140;
     }
 }
 
-fn main() {
+fn main(rt: HostRuntime) {
     let mut failed = false;
-    let mut space = io::large_buffer();
-    let n = streams::read_all(&mut failed, &mut space);
-    print_pairs(&mut failed, &space[..n]);
+    let mut space = [0u8; 65536];
+    let n = streams::read_all(rt, &mut failed, &mut space);
+    print_pairs(rt, &mut failed, &space[..n]);
 }

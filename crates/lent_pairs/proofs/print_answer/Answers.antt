@@ -1,0 +1,21 @@
+use mathlib.Core.Path.{sym, ap, ◌∙◌}
+use native.Mathlib.Omega.{arith}
+use Rattle.lent_pairs.specs.Pairs.{printed_answer}
+use Rattle.lent_pairs.proofs.Printed.{written_fits}
+use Rattle.lent_pairs.proofs.print_answer.Goals as goal
+
+pub overflow_cast-n : goal.overflow_cast-n
+overflow_cast-n c =
+    let h = written_fits _ _ _ _ (sym c.print_pair.ensures.answered ∙ c.in-Written.is) in omega (arith, h)
+
+pub returns-in-Written : goal.returns-in-Written
+unfolding printed_answer
+returns-in-Written c =
+    let p = c.print_pair.ensures in
+    record { value = c.answer.ensures ∙ sym (ap printed_answer (sym p.answered ∙ c.in-Written.is)); out_after = p.stored }
+
+pub returns-in-RoomTooShort : goal.returns-in-RoomTooShort
+unfolding printed_answer
+returns-in-RoomTooShort c =
+    let p = c.print_pair.ensures in
+    record { value = c.answer-in-RoomTooShort.ensures ∙ sym (ap printed_answer (sym p.answered ∙ c.in-RoomTooShort.is)); out_after = p.stored }
