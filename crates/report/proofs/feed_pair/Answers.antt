@@ -14,22 +14,21 @@ feed_whole-requires c = omega (arith, c.loop-i-test.true)
 
 pub returns-then-lines-ge2 : goal.returns-then-lines-ge2
 returns-then-lines-ge2 c =
-    let a = c.args in
-    let p = a.piece.now in record {
+    let p = c.args.piece.now in
+    record {
       piece_value = c.feed_whole.ensures.piece_value
           ∙ ap (λ d. fed (fresh d) (drop (c.loop-i.i + 1) p)) c.with_lines.ensures
-          ∙ byte_ends c.loop-i.lines c.feed-lines.result a.state.count p c.loop-i.i c.loop-i-test.true c.feed-lines.ensures c.if-lines-ge2.true
+          ∙ byte_ends c.loop-i.lines c.feed-lines.result c.args.state.count p c.loop-i.i c.loop-i-test.true c.feed-lines.ensures c.if-lines-ge2.true
           ∙ c.loop-i.invariant.2;
       from_lt_next = (omega (arith, c.feed_whole.ensures.from_le_next.0, c.loop-i.invariant.0), c.feed_whole.ensures.from_le_next.1);
     }
 
 pub loop-i-preserved : goal.loop-i-preserved
 loop-i-preserved c =
-    let a = c.args in
-    let p = a.piece.now in (
+    let p = c.args.piece.now in (
       omega (arith, c.loop-i.invariant.0),
       omega (arith, c.loop-i-test.true),
-      byte_in c.loop-i.lines c.feed-lines.result a.state.count p c.loop-i.i c.loop-i-test.true c.feed-lines.ensures c.if-lines-ge2.false ∙ c.loop-i.invariant.2,
+      byte_in c.loop-i.lines c.feed-lines.result c.args.state.count p c.loop-i.i c.loop-i-test.true c.feed-lines.ensures c.if-lines-ge2.false ∙ c.loop-i.invariant.2,
     )
 
 pub returns : goal.returns

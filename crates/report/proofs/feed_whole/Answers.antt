@@ -14,7 +14,10 @@ line_end-b-requires c = omega arith
 
 pub returns-then-b-piece : goal.returns-then-b-piece
 returns-then-b-piece c =
-    rw (c.fresh.ensures.0, c.fresh.ensures.1) (record { piece_value = c.loop-a.invariant.4; from_le_next = (c.loop-a.invariant.0, c.loop-a.invariant.1) })
+    record {
+      piece_value = rw (c.fresh.ensures.0, c.fresh.ensures.1) c.loop-a.invariant.4;
+      from_le_next = rw c.fresh.ensures.1 (c.loop-a.invariant.0, c.loop-a.invariant.1);
+    }
 
 pub slice_bounds-with_pair-start : goal.slice_bounds-with_pair-start
 slice_bounds-with_pair-start c = omega (arith, c.loop-a.invariant.2)
@@ -39,4 +42,7 @@ loop-a-preserved c =
 
 pub returns : goal.returns
 returns c =
-    rw (c.fresh-2.ensures.0, c.fresh-2.ensures.1) (record { piece_value = c.loop-a.invariant.4; from_le_next = (c.loop-a.invariant.0, c.loop-a.invariant.1) })
+    record {
+      piece_value = rw (c.fresh-2.ensures.0, c.fresh-2.ensures.1) c.loop-a.invariant.4;
+      from_le_next = rw c.fresh-2.ensures.1 (c.loop-a.invariant.0, c.loop-a.invariant.1);
+    }

@@ -8,5 +8,4 @@ use Rattle.report.proofs.kind_of.Goals as goal
 pub returns : goal.returns
 unfolding kind_of of_bits
 returns c =
-    let a = c.args in
-    c.marked_kind.ensures ∙ judged (open_of a.r) _ _ c.open_record-answer.ensures.value c.open_record-answer.ensures.marks_after
+    c.marked_kind.ensures ∙ judged (open_of c.args.r) _ _ c.open_record-answer.ensures.value c.open_record-answer.ensures.marks_after

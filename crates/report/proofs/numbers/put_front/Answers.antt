@@ -10,13 +10,11 @@ loop-i-init c = (search rules, search rules, refl, refl)
 
 pub loop-i-preserved : goal.loop-i-preserved
 loop-i-preserved c =
-    let a = c.args in
-    (search rules, c.loop-i.invariant.1, simp length-set c.loop-i.invariant.2, rw c.loop-i.invariant.3 (turn a.values a.counts.now c.loop-i.i (omega arith)))
+    (search rules, c.loop-i.invariant.1, simp length-set c.loop-i.invariant.2, rw c.loop-i.invariant.3 (turn c.args.values c.args.counts.now c.loop-i.i (omega arith)))
 
 pub shape_of-counts : goal.shape_of-counts
 shape_of-counts c = c.loop-i.invariant.2
 
 pub returns : goal.returns
 returns c =
-    let a = c.args in
-    finish a.values a.counts.now c.loop-i.counts c.loop-i.i 17 c.loop-i.invariant.1 (omega arith) (omega arith) c.loop-i.invariant.3
+    finish c.args.values c.args.counts.now c.loop-i.counts c.loop-i.i 17 c.loop-i.invariant.1 (omega arith) (omega arith) c.loop-i.invariant.3
