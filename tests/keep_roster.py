@@ -186,7 +186,8 @@ def failing(test):
     os.close(read)
     got = subprocess.run([test.program, "roster", "lodge"], input=text, stdout=write, stderr=subprocess.PIPE, cwd=test.room)
     os.close(write)
-    test.result("its output a pipe that nobody reads", got.returncode == -signal.SIGPIPE and test.left() == one and test.beside() == [])
+    said = b"cannot write to standard output: Broken pipe\n"
+    test.result("its output a pipe that nobody reads", got.stderr == said and test.left() == one and test.beside() == [], got.stderr)
 
 
 # ------------------------------------------------------------------ stopped at any moment

@@ -330,7 +330,7 @@ def tuple_parts(t):
 def binder_sub(body, table):
     def one(m):
         return table.get(m.group(0), m.group(0))
-    return re.sub(r"(?<![.\w'₀-])%s" % WORD, one, body)
+    return re.sub(r"(?<![.\w'₀-])%s(?!\s+=\s)" % WORD, one, body)
 
 
 def is_trivial(arg, unfolding):

@@ -2,4 +2,3 @@
 // over the definitions that their contracts equate them with. specs/Best has the claim, proofs/Best the
 // theorem. There is nothing to run.
 #![tactic(auto)]
-

@@ -28,12 +28,10 @@ use Rattle.sequences.specs.Demand3.{none}
 use Rattle.sequences.proofs.Demand3.{satellite_at, opened_place}
 use Rattle.pass_edges.specs.declared.Best.{Best}
 use Rattle.passes.specs.declared.Scan.{Scan}
-use Rattle.passes.specs.declared.Pass.{Pass}
-use Rattle.passes.specs.declared.Passing.{Passing}
 use Rattle.passes.specs.declared.Passing.TheVariants as passing
 use Rattle.pass_edges.specs.Search.{sine_at, above_at, until, left_over, edge, climbed, summit}
 use Rattle.passes.specs.Samples.{hits, higher, begin, stopped, passed, judged, sampled, stops}
-use Rattle.passes.specs.Passes.{pass_refusal, scanned, scans_left, after, left_of, pass_of, searched, next_pass}
+use Rattle.passes.specs.Passes.{pass_refusal, scanned, scans_left, after, pass_of, searched, next_pass}
 use Rattle.passes.proofs.Steps.{short_step}
 use Rattle.pass_claims.specs.Claims.{Refined, Onward, First, NoneAbove, Right, OpenedPasses}
 use Rattle.pass_claims.proofs.Edges.{impossible, differ, less_than, split, edge_rises, edge_sets, edge_same}

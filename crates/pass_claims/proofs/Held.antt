@@ -1,7 +1,6 @@
 -- A satellite newly opened shows the same whatever it was asked before.
 use Prim.Native.Nat.{ℕ}
-use mathlib.Core.Path.{◌≡◌, refl, sym, ap, ◌∙◌}
-use lib.Ieee.{Float}
+use mathlib.Core.Path.{◌≡◌, refl, ap, ◌∙◌}
 use Rattle.instant.specs.declared.Elapsed.{Elapsed}
 use Rattle.instant.specs.declared.Elapsed.TheVariants as elapsed
 use Rattle.instant.specs.Since.{since_of}

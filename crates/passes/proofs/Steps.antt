@@ -1,12 +1,11 @@
 -- One sample, and the refusals: what the code does is what the definition says.
 use mathlib.Core.Path.{◌≡◌, refl, sym, ap, ◌∙◌}
 use mathlib.Core.Bool.{Bool, true, false, cond, not, ◌&&◌, ◌||◌, false≢true}
-use Prim.Native.Nat.{ℕ, ◌+◌, ◌-◌, ◌/◌, ◌≤◌, ◌<◌}
+use Prim.Native.Nat.{ℕ, ◌≤◌, ◌<◌}
 use native.Mathlib.Omega.{arith}
 use lib.Dec.{ltb, eqb}
 use lib.Ieee.{Float}
 use borrow.Author.Tests.{ltb-false, lt-ltb, le-ltb, eq-eqb, ne_eqb}
-use Rattle.instant.specs.Calendar.{in_calendar}
 use Rattle.instant.proofs.Calendar.{inside, outside}
 use Rattle.geodetic.specs.declared.Geodetic.{Geodetic}
 use Rattle.geodetic.specs.Geodetic.{on_earth, between}

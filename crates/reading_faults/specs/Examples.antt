@@ -4,14 +4,14 @@ use Prim.Native.String.{String}
 use Rattle.text.specs.Output.{bytes, spell}
 use Rattle.columns.specs.Layout.{agreed}
 use Rattle.columns.specs.Sum.{digit_of, sum}
-use Rattle.tle.specs.Read.{verdict_of, pair_of, fields_of, form_of, refusal_in}
+use Rattle.tle.specs.Read.{verdict_of, pair_of, form_of, refusal_in}
 use Rattle.tle.specs.declared.Field.TheVariants.{Inclination}
 use Rattle.tle.specs.declared.Refusal.TheVariants.{Range}
-use Rattle.marked_line.specs.Marked.{visible, part, shown, marked, numbered, named}
-use Rattle.column_faults.specs.Faults.{allowed_text, end_text, size_text, length_text, place_text, column_text}
+use Rattle.marked_line.specs.Marked.{visible, part, shown, marked, named}
+use Rattle.column_faults.specs.Faults.{allowed_text, place_text, column_text}
 use Rattle.column_faults.specs.Sums.{digit_sum, minus, minuses, due_text, checksum_text}
 use Rattle.reading_faults.specs.Ranges.{field_text, limits_text, range_in, range_text}
-use Rattle.reading_faults.specs.Fault.{numbers_text, line_fault, on_line, fault_text}
+use Rattle.reading_faults.specs.Fault.{line_fault, on_line, fault_text}
 
 -- what is said of two lines whose form is refused
 said : String → String → List ℕ

@@ -20,7 +20,6 @@ use Rattle.opening.specs.Opening.{number, opened}
 use Rattle.storage.specs.Storage.{resonance_mark, method_mark, place_marks, model_marks, marks_of, too_short, store_refusal, stored_marks}
 use Rattle.answers.specs.Answer.{answer}
 use Rattle.lent_opening.specs.Opening.{open_answer, open_marks}
-use Rattle.report.specs.declared.Kind.{Kind}
 use Rattle.report.specs.declared.Kind.TheVariants.{Near, Deep, Unopened}
 use Rattle.report.specs.Report.{kind_by, opened_kind}
 use Rattle.report.specs.State.{marked_kind}

@@ -2,7 +2,7 @@
 --
 --   0 accepted; 1-6 refused 1 to 6; 7 near; 8 deep; 9 unopened; 10-12 earliest and 13-15 latest, each the year, the day of the year and the
 --   microseconds of that day; 16 span. With none accepted the last seven are 0.
-use Rattle.std.specs.Prelude.{ℕ, ◌*◌, ◌/◌, ◌%◌, cond, List, [], ◌∷◌, ◌++◌, eqb, ltb, length, drop}
+use Rattle.std.specs.Prelude.{ℕ, ◌*◌, ◌/◌, ◌%◌, cond, List, [], ◌∷◌, ◌++◌, ltb, length, drop}
 use Rattle.report.specs.declared.Tally.{Tally}
 use Rattle.report.specs.declared.Report.{Report}
 use Rattle.report.specs.declared.Report.TheVariants.{Counted, TooMany, Odd}

@@ -1,0 +1,4 @@
+use Rattle.pass_edges.proofs.sine_at.Goals as goal
+
+pub returns : goal.returns
+returns c = simp c.seen_at-y.ensures

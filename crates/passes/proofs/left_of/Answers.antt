@@ -1,0 +1,7 @@
+use Rattle.passes.proofs.left_of.Goals as goal
+
+pub returns-then-x : goal.returns-then-x
+returns-then-x c = simp c.if-x.true
+
+pub returns : goal.returns
+returns c = simp c.if-x.false

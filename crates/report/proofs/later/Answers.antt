@@ -1,0 +1,11 @@
+use borrow.Author.Tests.{lt-ltb, le-ltb}
+use Rattle.report.specs.Report.{later}
+use Rattle.report.proofs.later.Goals as goal
+
+pub returns-then-a-b : goal.returns-then-a-b
+unfolding later
+returns-then-a-b c = simp (lt-ltb _ _ c.if-a-b.true)
+
+pub returns : goal.returns
+unfolding later
+returns c = simp (le-ltb _ _ c.if-a-b.false)
