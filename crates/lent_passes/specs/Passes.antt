@@ -3,7 +3,6 @@
 use Rattle.std.specs.Prelude.{ℕ, ◌+◌, ◌*◌, Bool, true, false, cond, ◌||◌, List, [], ◌∷◌, eqb, ltb, length, Float}
 use Rattle.earth_fixed.specs.Frame.{at}
 use Rattle.geodetic.specs.declared.Geodetic.{Geodetic}
-use Rattle.passes.specs.declared.Pass.{Pass}
 use Rattle.passes.specs.declared.Passing.{Passing}
 use Rattle.passes.specs.declared.Passing.TheVariants as passing
 use Rattle.passes.specs.Passes.{pass_refusal, next_pass}

@@ -296,6 +296,7 @@ fn with_lines(count: Count, first: Line, second: Line) -> Count
     with_held(count, line1, first.size, line2, second.size)
 }
 
+#[tactic(auto, using(std::proofs::lemmas::Bool::Decides::nat_tests), unfolding(crate::specs::State::closed))]
 fn closed(count: Count, odd: bool) -> Report
     ensures { result ≡ S.closed count odd }
 {
