@@ -2,4 +2,3 @@
 // contracts of the libraries equate their functions with. There is no code here: `specs/Cases.antt` has
 // the list, and `proofs/Edges.antt` the one statement.
 #![tactic(auto)]
-

@@ -8,6 +8,7 @@ use line_input::{Input, next_line, whole_in};
 
 // A line in front of the requests, and what is said of it.
 fn take_front(
+    rt: HostRuntime,
     failed: &mut bool,
     stage: Stage,
     first: &mut [u8],
@@ -19,12 +20,13 @@ fn take_front(
     ensures { failed.old ≡ true → failed.new ≡ true }
 {
     let next = take_stage(stage, first, line, room, numbers, marks);
-    print_room(failed, room, next.said);
+    print_room(rt, failed, room, next.said);
     next.stage
 }
 
 // The line of so many bytes in its room; one that is longer counts as an empty one.
 fn take_line(
+    rt: HostRuntime,
     failed: &mut bool,
     stage: Stage,
     number: u64,
@@ -40,15 +42,16 @@ fn take_line(
     let n = whole_in(size, held);
     let line = &held[..n];
     if let Stage::Asking(sheet) = stage {
-        answer(failed, sheet, number, line, room, numbers, marks);
+        answer(rt, failed, sheet, number, line, room, numbers, marks);
         return stage;
     }
-    take_front(failed, stage, first, line, room, numbers, marks)
+    take_front(rt, failed, stage, first, line, room, numbers, marks)
 }
 
 // A proved loop has to end, and nothing says that the input does: so it counts its turns down, from a
 // number that no run uses up. The lines are counted by them.
 pub(crate) fn run(
+    rt: HostRuntime,
     failed: &mut bool,
     numbers: &mut [f64; 83],
     marks: &mut [u32; 6],
@@ -63,13 +66,13 @@ pub(crate) fn run(
     let mut stage = Stage::Start;
     let mut turns = u64::MAX;
     while turns > 0 {
-        let next = next_line(failed, input, buffer, line);
+        let next = next_line(rt, failed, input, buffer, line);
         if !(next.found | wants_line(stage)) {
             return;
         }
         let number = u64::MAX - turns + 1;
         stage = take_line(
-            failed, stage, number, first, line, next.size, room, numbers, marks,
+            rt, failed, stage, number, first, line, next.size, room, numbers, marks,
         );
         input = next.input;
         turns -= 1;

@@ -11,15 +11,16 @@ mod input; // the loop over the lines
 use input::run;
 
 // The satellite lies in `numbers` and `marks`, as a caller in C keeps it.
-fn main() {
+fn main(rt: HostRuntime) {
     let mut failed = false;
     let mut numbers = [0f64; 83];
     let mut marks = [0u32; 6];
     let mut first = [0u8; 70];
-    let mut buffer = io::buffer();
-    let mut line = io::large_buffer();
-    let mut room = io::large_buffer();
+    let mut buffer = [0u8; 4096];
+    let mut line = [0u8; 65536];
+    let mut room = [0u8; 65536];
     run(
+        rt,
         &mut failed,
         &mut numbers,
         &mut marks,

@@ -8,20 +8,20 @@ use ephemeris_requests::{Ask, Fault, Grid, put_fault, read_ask, time_at};
 use streams::print;
 
 // The first bytes of a room.
-pub fn print_room(failed: &mut bool, room: &[u8], n: usize)
+pub fn print_room(rt: HostRuntime, failed: &mut bool, room: &[u8], n: usize)
     ensures { failed.old ≡ true → failed.new ≡ true }
 {
     if n <= room.len() {
-        print(failed, &room[0..n]);
+        print(rt, failed, &room[0..n]);
     }
 }
 
 // Where the next line may stand: no line has more than 300 bytes (RowFits of ephemeris_text).
-fn with_room(failed: &mut bool, room: &[u8], at: usize) -> usize
+fn with_room(rt: HostRuntime, failed: &mut bool, room: &[u8], at: usize) -> usize
     ensures { failed.old ≡ true → failed.new ≡ true }
 {
     if at > 65000 {
-        print_room(failed, room, at);
+        print_room(rt, failed, room, at);
         return 0;
     }
     at
@@ -29,6 +29,7 @@ fn with_room(failed: &mut bool, room: &[u8], at: usize) -> usize
 
 // The row of one time.
 fn add_time(
+    rt: HostRuntime,
     failed: &mut bool,
     room: &mut [u8],
     at: usize,
@@ -39,11 +40,12 @@ fn add_time(
 ) -> usize
     ensures { failed.old ≡ true → failed.new ≡ true }
 {
-    let at = with_room(failed, room, at);
+    let at = with_room(rt, failed, room, at);
     put_time(room, at, sheet, time, numbers, marks)
 }
 
 fn add_times(
+    rt: HostRuntime,
     failed: &mut bool,
     room: &mut [u8],
     sheet: Sheet,
@@ -56,13 +58,14 @@ fn add_times(
     let mut at = 0;
     let mut i = 0;
     while i < times.len() {
-        at = add_time(failed, room, at, sheet, times[i], numbers, marks);
+        at = add_time(rt, failed, room, at, sheet, times[i], numbers, marks);
         i += 1;
     }
     at
 }
 
 fn add_grid(
+    rt: HostRuntime,
     failed: &mut bool,
     room: &mut [u8],
     sheet: Sheet,
@@ -80,17 +83,17 @@ fn add_grid(
             return at;
         }
         let time = time_at(grid, i);
-        at = add_time(failed, room, at, sheet, time.0, numbers, marks);
+        at = add_time(rt, failed, room, at, sheet, time.0, numbers, marks);
         i += 1;
     }
     at
 }
 
-fn tell(number: u64, why: Fault) {
+fn tell(rt: HostRuntime, number: u64, why: Fault) {
     let mut out = [0u8; 128];
     let n = put_fault(&mut out, 0, number, why);
     if n <= 128 {
-        io::write_all(libc::STDERR_FILENO, &out[0..n]);
+        streams::tell(rt, &out[0..n]);
     }
 }
 
@@ -105,6 +108,7 @@ fn listed(n: usize) -> usize
 }
 
 fn rows_of(
+    rt: HostRuntime,
     failed: &mut bool,
     sheet: Sheet,
     number: u64,
@@ -119,12 +123,12 @@ fn rows_of(
     match read_ask(line, &mut times) {
         Ask::Times(n) => {
             let n = listed(n);
-            add_times(failed, room, sheet, &times[0..n], numbers, marks)
+            add_times(rt, failed, room, sheet, &times[0..n], numbers, marks)
         }
-        Ask::Steps(grid) => add_grid(failed, room, sheet, grid, numbers, marks),
+        Ask::Steps(grid) => add_grid(rt, failed, room, sheet, grid, numbers, marks),
         Ask::At(t) => put_at(room, 0, sheet, t, numbers, marks),
         Ask::Bad(why) => {
-            tell(number, why);
+            tell(rt, number, why);
             0
         }
     }
@@ -132,6 +136,7 @@ fn rows_of(
 
 // The line of such a number.
 pub fn answer(
+    rt: HostRuntime,
     failed: &mut bool,
     sheet: Sheet,
     number: u64,
@@ -142,6 +147,6 @@ pub fn answer(
 )
     ensures { failed.old ≡ true → failed.new ≡ true }
 {
-    let at = rows_of(failed, sheet, number, line, room, numbers, marks);
-    print_room(failed, room, at);
+    let at = rows_of(rt, failed, sheet, number, line, room, numbers, marks);
+    print_room(rt, failed, room, at);
 }

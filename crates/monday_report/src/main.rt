@@ -17,11 +17,11 @@ struct Turn {
     more: bool,
 }
 
-fn read_more(failed: &mut bool, state: State) -> Turn
+fn read_more(rt: HostRuntime, failed: &mut bool, state: State) -> Turn
     ensures { More state result.state }
 {
-    let mut buffer = io::buffer();
-    let n = streams::read(failed, &mut buffer);
+    let mut buffer = [0u8; 4096];
+    let n = streams::read(rt, failed, &mut buffer);
     if n == 0 {
         return Turn { state, more: false };
     }
@@ -31,13 +31,13 @@ fn read_more(failed: &mut bool, state: State) -> Turn
 
 // A proved loop has to end, and nothing says that the input does. So it counts its turns down, from a
 // number that no run uses up.
-fn read_all(failed: &mut bool) -> State
+fn read_all(rt: HostRuntime, failed: &mut bool) -> State
     ensures { More begun result }
 {
     let mut state = State::start();
     let mut turns = u64::MAX;
     while turns > 0 {
-        let turn = read_more(failed, state);
+        let turn = read_more(rt, failed, state);
         state = turn.state;
         if !turn.more {
             return state;
@@ -48,15 +48,15 @@ fn read_all(failed: &mut bool) -> State
 }
 
 // The buffer of 4096 bytes has room for every report's text, which is 466 bytes at most.
-fn main() {
+fn main(rt: HostRuntime) {
     let mut failed = false;
-    let state = read_all(&mut failed);
-    let mut out = io::buffer();
+    let state = read_all(rt, &mut failed);
+    let mut out = [0u8; 4096];
     let printed = print_report(state.finish(), &mut out);
     let Printed::Written(n) = printed else {
         return;
     };
     if n <= 4096 {
-        streams::print(&mut failed, &out[0..n]);
+        streams::print(rt, &mut failed, &out[0..n]);
     }
 }

@@ -7,15 +7,27 @@ use printing::{print_answer, print_list, refuse_list};
 use request_line::{Request, read_request};
 use streams::print;
 
-fn answer_one(failed: &mut bool, numbers: &mut [f64; 83], marks: &mut [u32; 6], time: i64)
+fn answer_one(
+    rt: HostRuntime,
+    failed: &mut bool,
+    numbers: &mut [f64; 83],
+    marks: &mut [u32; 6],
+    time: i64,
+)
     ensures { failed.old ≡ true → failed.new ≡ true }
 {
     let mut state = [0f64; 6];
     let answer = request_held(numbers, marks, time, &mut state);
-    print_answer(failed, answer, state);
+    print_answer(rt, failed, answer, state);
 }
 
-fn answer_list(failed: &mut bool, numbers: &mut [f64; 83], marks: &mut [u32; 6], times: &[i64])
+fn answer_list(
+    rt: HostRuntime,
+    failed: &mut bool,
+    numbers: &mut [f64; 83],
+    marks: &mut [u32; 6],
+    times: &[i64],
+)
     ensures { failed.old ≡ true → failed.new ≡ true }
 {
     let mut refusals = [0u8; 1024];
@@ -29,7 +41,7 @@ fn answer_list(failed: &mut bool, numbers: &mut [f64; 83], marks: &mut [u32; 6],
         &mut states,
         &mut rounds,
     );
-    print_list(failed, answer, times.len(), &refusals, &states, &rounds);
+    print_list(rt, failed, answer, times.len(), &refusals, &states, &rounds);
 }
 
 // No list that is read is longer than the room for its times.
@@ -42,17 +54,23 @@ fn listed(n: usize) -> usize
     1100
 }
 
-pub(crate) fn answer(failed: &mut bool, numbers: &mut [f64; 83], marks: &mut [u32; 6], line: &[u8])
+pub(crate) fn answer(
+    rt: HostRuntime,
+    failed: &mut bool,
+    numbers: &mut [f64; 83],
+    marks: &mut [u32; 6],
+    line: &[u8],
+)
     ensures { failed.old ≡ true → failed.new ≡ true }
 {
     let mut times = [0i64; 1100];
     match read_request(line, &mut times) {
-        Request::One => answer_one(failed, numbers, marks, times[0]),
+        Request::One => answer_one(rt, failed, numbers, marks, times[0]),
         Request::List(n) => {
             let n = listed(n);
-            answer_list(failed, numbers, marks, &times[0..n])
+            answer_list(rt, failed, numbers, marks, &times[0..n])
         }
-        Request::TooMany => refuse_list(failed),
-        Request::Malformed => print(failed, b"malformed\n"),
+        Request::TooMany => refuse_list(rt, failed),
+        Request::Malformed => print(rt, failed, b"malformed\n"),
     }
 }

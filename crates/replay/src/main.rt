@@ -29,6 +29,7 @@ enum Stage {
 
 // The pair of a first line of so many bytes, kept in a room, and a second.
 fn open(
+    rt: HostRuntime,
     failed: &mut bool,
     first: &[u8],
     size: usize,
@@ -41,10 +42,10 @@ fn open(
     let n = whole_in(size, first);
     let answer = open_held(&first[..n], line, numbers, marks);
     if answer == 0 {
-        print(failed, b"opened\n");
+        print(rt, failed, b"opened\n");
         return Stage::Asking;
     }
-    print_refused(failed, answer % 256);
+    print_refused(rt, failed, answer % 256);
     Stage::Over
 }
 
@@ -61,6 +62,7 @@ fn stage_of(stage: Stage, line: &[u8]) -> Stage {
 // The line of so many bytes in its room. One that is longer than the room is neither a request nor one of a
 // pair, as an empty one.
 fn take_line(
+    rt: HostRuntime,
     failed: &mut bool,
     stage: Stage,
     first: &mut [u8; 70],
@@ -76,9 +78,9 @@ fn take_line(
     let stage = stage_of(stage, line);
     match stage {
         Stage::First => Stage::Second(put_bytes(first, 0, line)),
-        Stage::Second(size) => open(failed, first, size, line, numbers, marks),
+        Stage::Second(size) => open(rt, failed, first, size, line, numbers, marks),
         Stage::Asking => {
-            answer(failed, numbers, marks, line);
+            answer(rt, failed, numbers, marks, line);
             stage
         }
         Stage::Over => stage,
@@ -98,6 +100,7 @@ fn wants_line(stage: Stage) -> bool {
 // A proved loop has to end, and nothing says that the input does: so it counts its turns down, from a
 // number that no run uses up.
 fn run(
+    rt: HostRuntime,
     failed: &mut bool,
     numbers: &mut [f64; 83],
     marks: &mut [u32; 6],
@@ -111,11 +114,11 @@ fn run(
     let mut stage = Stage::First;
     let mut turns = u64::MAX;
     while turns > 0 {
-        let next = next_line(failed, input, buffer, line);
+        let next = next_line(rt, failed, input, buffer, line);
         if !(next.found | wants_line(stage)) {
             return;
         }
-        stage = take_line(failed, stage, first, line, next.size, numbers, marks);
+        stage = take_line(rt, failed, stage, first, line, next.size, numbers, marks);
         input = next.input;
         turns -= 1;
     }
@@ -123,14 +126,15 @@ fn run(
 
 // The satellite lies in `numbers` and `marks`, as a caller in C keeps it. The line's room holds 1,100 times
 // of up to 20 bytes and more.
-fn main() {
+fn main(rt: HostRuntime) {
     let mut failed = false;
     let mut numbers = [0f64; 83];
     let mut marks = [0u32; 6];
     let mut first = [0u8; 70];
-    let mut buffer = io::buffer();
-    let mut line = io::large_buffer();
+    let mut buffer = [0u8; 4096];
+    let mut line = [0u8; 65536];
     run(
+        rt,
         &mut failed,
         &mut numbers,
         &mut marks,

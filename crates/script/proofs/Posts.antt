@@ -14,14 +14,13 @@ use Rattle.opening.specs.declared.opening.PairOpening.TheVariants as pair
 use Rattle.opening.specs.Opening.{open_pair_of}
 use Rattle.opening.proofs.Made.{made_of}
 use Rattle.requests.specs.Lists.{refusals_of, states_of, rounds_of, over}
-use Rattle.runs.specs.Runs.{Window}
-use Rattle.sequences.specs.Demand3.{Request, One, Many, Windows, Outcome, outcome, row_times, run, times, sum, reported, ranged, row_alone, strides_alone, windows_alone, NoMore, epoch, Demand3}
+use Rattle.sequences.specs.Demand3.{Request, One, Many, Windows, Outcome, outcome, row_times, run, sum, reported, ranged, row_alone, strides_alone, windows_alone, NoMore, epoch, Demand3}
 use Rattle.sequences.proofs.Demand3.{demand_3}
 use Rattle.script.specs.declared.Ran.{Ran}
 use Rattle.script.specs.declared.Ran.TheVariants.{Done, Short, Unread, Refused}
 use Rattle.script_room.specs.Room.{suffices}
-use Rattle.script_steps.specs.Steps.{written, laid, laid_all, script, rows_of, windows_of, firsts_of, lasts_of, strides_of, found_of, Left, Runs}
-use Rattle.script.specs.Script.{written_all, NoCall, TwoKinds, joined, Demanded, ran_of, Post}
+use Rattle.script_steps.specs.Steps.{written, laid_all, script, rows_of, windows_of, firsts_of, lasts_of, strides_of, found_of, Left, Runs}
+use Rattle.script.specs.Script.{written_all, TwoKinds, joined, Demanded, ran_of, Post}
 
 absurd : {B : Type 0} → ⊥ → B
 absurd = elim [ ]

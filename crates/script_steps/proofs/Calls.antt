@@ -1,10 +1,10 @@
 -- A call's windows put after those that the rooms hold already.
 use mathlib.Core.Path.{◌≡◌, refl, sym, ap, ◌∙◌, subst}
 use mathlib.Core.Bool.{Bool, true, false, cond}
-use mathlib.Core.List.{List, [], ◌∷◌, ◌++◌}
+use mathlib.Core.List.{List, [], ◌++◌}
 use Prim.Native.Nat.{ℕ, zero, suc, ◌-◌, ◌≤◌, min}
 use native.Mathlib.Omega.{arith}
-use lib.ListN.{length, take, drop, length-drop, take-append-drop}
+use lib.ListN.{length, take, length-drop, take-append-drop}
 use lib.Dec.{eqb}
 use lib.IntN.{ℤ}
 use lib.Ieee.{Float}
@@ -15,7 +15,7 @@ use Rattle.opening.specs.declared.opening.Satellite.{Satellite}
 use Rattle.requests.specs.Lists.{rows_from, over}
 use Rattle.runs.specs.Runs.{windows_in}
 use Rattle.windows.specs.declared.WindowsAnswer.{WindowsAnswer}
-use Rattle.windows.specs.Windows.{Call, call_refusal, instants_from, samples_of, windows_of}
+use Rattle.windows.specs.Windows.{Call, call_refusal, instants_from, samples_of}
 use Rattle.windows.specs.Answer.{call_of, call_times, windows_at, windowed, WindowsPost}
 use Rattle.windows.proofs.Claims.{fits_places}
 use Rattle.script_steps.specs.Steps.{request_of, call_by, call_at, laid, firsts_of, lasts_of, Called}

@@ -32,6 +32,7 @@ fn open(
 }
 
 pub fn read_pair(
+    rt: HostRuntime,
     failed: &mut bool,
     first: &mut [u8; 70],
     buffer: &mut [u8; 4096],
@@ -41,10 +42,10 @@ pub fn read_pair(
 ) -> Opened
     ensures { failed.old ≡ true → failed.new ≡ true }
 {
-    let next = next_line(failed, Input::start(), buffer, line);
+    let next = next_line(rt, failed, Input::start(), buffer, line);
     let input = next.input;
     let size = keep(first, line, next.size);
-    let next = next_line(failed, input, buffer, line);
+    let next = next_line(rt, failed, input, buffer, line);
     let input = next.input;
     let refusal = open(first, size, line, next.size, numbers, marks);
     Opened { refusal, input }

@@ -35,7 +35,6 @@ use Rattle.lunar_solar.specs.Finite as bodyFinite
 use Rattle.resonance_terms.specs.Dsinit.{one_day, half_day, one_day_of, g520_of, low_of, high_of, inclined_of, half_day_sum, half_day_of, kind_of, theta_of, half_day_start, one_day_start, start_of, aonv_of, dsinit_from, dsinit_of}
 use Rattle.resonance_terms.specs.Finite.{finite_one_day, finite_half_day, finite_kind, finite_integrator}
 use Rattle.resonance.specs.Time.{resonant}
-use Rattle.opening.specs.declared.opening.Satellite.{Satellite}
 use Rattle.opening.specs.declared.opening.PairOpening.{PairOpening}
 use Rattle.opening.specs.declared.opening.PairOpening.TheVariants as pair
 use Rattle.opening.specs.Elements.{xpdotp, bstar_of, elements_of}

@@ -5,7 +5,6 @@ use Rattle.text.specs.Output.{bytes}
 use Rattle.satellite.specs.declared.Resonance.{Resonance}
 use Rattle.satellite.specs.declared.Resonance.TheVariants as kinds
 use Rattle.opening.specs.declared.opening.Satellite.{Satellite}
-use Rattle.opening.specs.declared.opening.PairOpening.{PairOpening}
 use Rattle.opening.specs.declared.opening.PairOpening.TheVariants as pair
 use Rattle.opening.specs.Opening.{open_pair_of}
 use Rattle.sgp4.specs.Sgp4.{integrator_of}

@@ -2,4 +2,3 @@
 // the definitions that the contracts of the libraries equate their functions with. There is no code
 // here: `specs/Witness.antt` has the pairs and what is claimed, `proofs/Witness.antt` the proof.
 #![tactic(auto)]
-

@@ -1,0 +1,4 @@
+use Rattle.station_lines.proofs.pair.read_pair.Goals as goal
+
+pub returns : goal.returns
+returns c = λ h. c.next_line-next-2.ensures.marked (c.next_line-next.ensures.marked h)
