@@ -104,7 +104,10 @@ extern "C" {
 /* Elements of one state. */
 #define SADDLEKERF_STATE 6
 
-/* Bytes of stack: no function needs more, and all but saddlekerf_windows need less than 8,192. */
+/*
+ * Bytes of stack: no function needs more; all but saddlekerf_windows need less than 12,288, and all but that
+ * and saddlekerf_request_list less than 8,192.
+ */
 #define SADDLEKERF_STACK 69632
 
 /* The most times of one list. */

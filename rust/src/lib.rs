@@ -100,7 +100,8 @@
 //!
 //! A request takes at most 7,304 integrator strides (1.5 ms or so) and a list at most 7,479,296: 1,024
 //! times ten years from the epoch, each on the other side than the one before. Without resonance there
-//! are none. A call for windows needs at most 69,632 bytes of stack, any other less than 8,192.
+//! are none. A call for windows needs at most 69,632 bytes of stack, one for a list less than 12,288, any
+//! other less than 8,192.
 
 #![deny(unsafe_code, missing_debug_implementations)]
 
