@@ -2,4 +2,3 @@
 // calls on lent memory, and the way of a record through lent memory and back. There is no code here:
 // `specs/Sequences.antt` and `specs/Trips.antt` have what is claimed, `proofs/` the proofs.
 #![tactic(auto)]
-

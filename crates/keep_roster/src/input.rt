@@ -61,16 +61,17 @@ fn put_told(
 }
 
 // The first bytes of a room.
-pub(crate) fn print_text(failed: &mut bool, out: &[u8], n: usize)
+pub(crate) fn print_text(rt: HostRuntime, failed: &mut bool, out: &[u8], n: usize)
     ensures { failed.old ≡ true → failed.new ≡ true }
 {
     if n <= out.len() {
-        streams::print(failed, &out[0..n]);
+        streams::print(rt, failed, &out[0..n]);
     }
 }
 
 // One pair lodged, and told. An answer with its heading has 600 bytes at most.
 fn take_pair(
+    rt: HostRuntime,
     failed: &mut bool,
     name: &[u8],
     t: Tally,
@@ -81,15 +82,16 @@ fn take_pair(
 ) -> Tally
     ensures { failed.old ≡ true → failed.new ≡ true }
 {
-    let answer = lodge_in(failed, name, line1, line2);
+    let answer = lodge_in(rt, failed, name, line1, line2);
     let mut out = [0u8; 1024];
     let n = put_told(&mut out, first, second, answer, line1, line2);
-    print_text(failed, &out, n);
+    print_text(rt, failed, &out, n);
     counted(t, is_lodged(answer))
 }
 
 // A pair is lodged; what is said of a line that is in none has 163 bytes at most.
 fn take_step(
+    rt: HostRuntime,
     failed: &mut bool,
     name: &[u8],
     t: Tally,
@@ -107,6 +109,7 @@ fn take_step(
             let n = whole_in(n, line1);
             let m = whole_in(m, line2);
             take_pair(
+                rt,
                 failed,
                 name,
                 t,
@@ -117,29 +120,29 @@ fn take_step(
             )
         }
         What::Said(n) => {
-            print_text(failed, out, n);
+            print_text(rt, failed, out, n);
             t
         }
         What::Over => t,
     }
 }
 
-fn print_total(failed: &mut bool, lines: u64, t: Tally)
+fn print_total(rt: HostRuntime, failed: &mut bool, lines: u64, t: Tally)
     ensures { failed.old ≡ true → failed.new ≡ true }
 {
     let mut out = [0u8; 128];
     let n = put_total(&mut out, 0, lines, t.pairs, t.lodged);
-    print_text(failed, &out, n);
+    print_text(rt, failed, &out, n);
 }
 
 // A proved loop has to end, and nothing says that the input does. So it counts its turns down, from a
 // number that no run uses up.
-pub(crate) fn lodge_text(failed: &mut bool, name: &[u8])
+pub(crate) fn lodge_text(rt: HostRuntime, failed: &mut bool, name: &[u8])
     ensures { failed.old ≡ true → failed.new ≡ true }
 {
-    let mut buffer = io::buffer();
-    let mut line1 = io::buffer();
-    let mut line = io::buffer();
+    let mut buffer = [0u8; 4096];
+    let mut line1 = [0u8; 4096];
+    let mut line = [0u8; 4096];
     let mut out = [0u8; 256];
     let mut input = Input::start();
     let mut pairs = Pairs::start();
@@ -150,6 +153,7 @@ pub(crate) fn lodge_text(failed: &mut bool, name: &[u8])
     let mut turns = u64::MAX;
     while turns > 0 {
         let next = next_step(
+            rt,
             failed,
             input,
             pairs,
@@ -163,10 +167,10 @@ pub(crate) fn lodge_text(failed: &mut bool, name: &[u8])
         pairs = step.pairs;
         let what = step.what;
         if what.is_over() {
-            print_total(failed, pairs.lines, t);
+            print_total(rt, failed, pairs.lines, t);
             return;
         }
-        t = take_step(failed, name, t, step, &line1, &line, &out);
+        t = take_step(rt, failed, name, t, step, &line1, &line, &out);
         turns -= 1;
     }
 }

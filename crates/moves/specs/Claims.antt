@@ -16,11 +16,11 @@ pub record Shifts : Type 0 where
   pub back : (t u : ℕ) (x : ℤ) → Leads t x u → then_by (move_of t x) (neg_ℤ x) ≡ to t
 
 -- Outside the premise, whatever one move by the sum would answer:
---   first-too-far   the first span beyond 3,652 days: 9
+--   first_too_far   the first span beyond 3,652 days: 9
 --   start_outside   the start outside the calendar: 6
---   middle-outside  the first move leads to no instant of the calendar: 6, whatever the second span
---   second-too-far  the second span beyond 3,652 days: 9
---   end-outside     the second move leads to no instant of the calendar: 6
+--   middle_outside  the first move leads to no instant of the calendar: 6, whatever the second span
+--   second_too_far  the second span beyond 3,652 days: 9
+--   end_outside     the second move leads to no instant of the calendar: 6
 pub record Refused : Type 0 where
   pub first_too_far : (t : ℕ) (x y : ℤ) → in_span x ≡ false → then_by (move_of t x) y ≡ TooFar
   pub start_outside : (t : ℕ) (x y : ℤ) → in_span x ≡ true → in_calendar t ≡ false → then_by (move_of t x) y ≡ Outside

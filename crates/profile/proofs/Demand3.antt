@@ -1,7 +1,6 @@
 -- Demand 3 as it reads for the profile, for every sequence of requests put to any satellite.
-use mathlib.Core.Path.{◌≡◌, refl, sym, ap, ◌∙◌}
+use mathlib.Core.Path.{◌≡◌, refl, ap, ◌∙◌}
 use mathlib.Core.List.{List, [], ◌∷◌, map}
-use Prim.Native.Nat.{ℕ}
 use lib.IntN.{ℤ}
 use Rattle.satellite.specs.declared.Model.{Model}
 use Rattle.resonance.specs.declared.place.Place.{Place}
@@ -10,7 +9,7 @@ use Rattle.requests.specs.Request as F
 use Rattle.requests.specs.Lists.{holding, satellite_from}
 use Rattle.profile.specs.Request.{answered}
 use Rattle.profile.specs.Lists.{taken_of}
-use Rattle.profile.specs.Demand3.{Request, One, Many, row_times, outcome, run, Demand3}
+use Rattle.profile.specs.Demand3.{Request, One, Many, row_times, outcome, run}
 use Rattle.profile.specs.Claims.{AnySequence}
 use Rattle.profile.proofs.Same.{no_strides, same_model, row_alone_lem, rows_alone_lem}
 

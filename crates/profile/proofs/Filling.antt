@@ -1,13 +1,12 @@
 -- The rows of a list, written one after the other at the front of the rooms that are lent.
 use mathlib.Core.Path.{◌≡◌, refl, sym, ap, ◌∙◌, subst}
-use mathlib.Core.Bool.{Bool, true, false, cond, ◌||◌}
-use mathlib.Core.List.{List, [], ◌∷◌, ◌++◌, map}
+use mathlib.Core.Bool.{Bool, true, false, ◌||◌}
+use mathlib.Core.List.{List, [], ◌∷◌, ◌++◌}
 use Prim.Native.Nat.{ℕ, suc, ◌+◌, ◌*◌, ◌≤◌, ◌<◌}
 use native.Mathlib.Numerals.{add-one}
 use native.Mathlib.Omega.{arith}
 use lib.ListN.{length, take, set, get_or}
 use lib.Seq.{sets, take-suc, length-take-le}
-use lib.Dec.{eqb}
 use lib.IntN.{ℤ}
 use lib.Ieee.{Float}
 use borrow.Author.Tests.{ne_eqb, eq-eqb}
@@ -15,7 +14,6 @@ use Rattle.satellite.specs.declared.NearEarth.{NearEarth}
 use Rattle.sgp4.specs.declared.Row.{Row}
 use Rattle.requests.specs.Lists.{list_refusal, list_times, refusals_of, states_of, rounds_of, state_of, over}
 use Rattle.requests.proofs.Filling.{Written, written_more, all_times}
-use Rattle.profile.specs.declared.rows.Listed.{Listed}
 use Rattle.profile.specs.Request.{taken}
 use Rattle.profile.specs.Lists.{any_taken}
 use Rattle.profile.specs.Rows.{near_row, near_rows, Filled, RowsPost}

@@ -20,7 +20,6 @@ use Rattle.opening.specs.declared.opening.Opening.TheVariants as full
 use Rattle.opening.specs.Opening as O
 use Rattle.opening.specs.Opening.{newly, model_of, finite_method, finite_record, checked, above}
 use Rattle.profile.specs.declared.opener.Refusal.TheVariants as refusal
-use Rattle.profile.specs.declared.opener.Opening.{Opening}
 use Rattle.profile.specs.declared.opener.Opening.TheVariants as opening
 use Rattle.profile.specs.Opening.{narrow, narrowed, open_read_of, open_of, near_checked}
 

@@ -1,6 +1,6 @@
 -- The full program's answers for a near-Earth satellite: no strides, the position settled, and a row that neither position nor epoch changes.
 use mathlib.Core.Path.{◌≡◌, refl, sym, ap, ◌∙◌}
-use mathlib.Core.Bool.{Bool, true, false, cond, ◌&&◌, false≢true}
+use mathlib.Core.Bool.{Bool, true, false, cond, false≢true}
 use Prim.Native.Nat.{ℕ, zero, suc}
 use native.Mathlib.Omega.{arith}
 use lib.Dec.{leb}
@@ -24,13 +24,11 @@ use Rattle.state.specs.Kept.{sgp4_from}
 use Rattle.sgp4.specs.Sgp4.{no_integrator, integrator_by, integrator_of}
 use Rattle.sgp4.specs.Row.{refused_row, row_of}
 use Rattle.sgp4.specs.Kept.{state_by_from, state_from, row_from}
-use Rattle.opening.specs.declared.opening.Satellite.{Satellite}
 use Rattle.requests.specs.declared.Asked.{Asked}
-use Rattle.requests.specs.declared.Answered.{Answered}
 use Rattle.requests.specs.Request as F
 use Rattle.requests.specs.Request.{reached, choose}
 use Rattle.requests.specs.Lists.{holding}
-use Rattle.profile.specs.Request.{beyond_by, beyond, taken, refused, answered, settled}
+use Rattle.profile.specs.Request.{beyond_by, taken, refused, answered, settled}
 use Rattle.profile.specs.Rows.{near_row}
 use Rattle.profile.specs.Claims.{NearRow}
 

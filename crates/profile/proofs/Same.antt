@@ -1,16 +1,12 @@
 -- "On everything the profile takes, its answers have the same bits as the full program", for every satellite handed in.
 use mathlib.Core.Path.{◌≡◌, refl, sym, ap, ◌∙◌, subst}
-use mathlib.Core.Bool.{Bool, true, false, cond, false≢true}
-use mathlib.Core.List.{List, [], ◌∷◌, map}
-use Prim.Native.Nat.{ℕ}
+use mathlib.Core.Bool.{Bool, true, false, cond}
+use mathlib.Core.List.{List, [], ◌∷◌}
 use lib.IntN.{ℤ}
 use Rattle.instant.specs.declared.Instant.{Instant}
 use Rattle.tle.specs.declared.Record.{Record}
 use Rattle.satellite.specs.declared.NearEarth.{NearEarth}
-use Rattle.satellite.specs.declared.Method.{Method}
-use Rattle.satellite.specs.declared.Method.TheVariants as methods
 use Rattle.satellite.specs.declared.Model.{Model}
-use Rattle.near_earth.specs.Initl.{initl, deep_space}
 use Rattle.resonance.specs.declared.place.Place.{Place}
 use Rattle.opening.specs.declared.opening.Satellite.{Satellite}
 use Rattle.opening.specs.declared.opening.Refusal.TheVariants as full-refusal
@@ -29,7 +25,7 @@ use Rattle.profile.specs.Opening.{is_deep, narrow, open_of}
 use Rattle.profile.specs.Request.{beyond_by, beyond, taken, refused, answered}
 use Rattle.profile.specs.Lists.{rows_of, taken_of}
 use Rattle.profile.specs.Claims.{SameOpening, OpensTheRest, SameAnswer, NoStrides, AllTaken, SameLists}
-use Rattle.profile.proofs.Near.{near_model, near_model_lem, near_taken, near_method, deep_beyond, near_asked_lem, near_row_lem}
+use Rattle.profile.proofs.Near.{near_model_lem, near_taken, deep_beyond, near_asked_lem, near_row_lem}
 
 -- ── a satellite that the profile opens is the one that the full program opens, and near Earth ──
 

@@ -1,5 +1,5 @@
 -- "On everything the profile takes, its answers have the same bits as the full program." Claims: proved in proofs/Same, proofs/Near and proofs/Demand3.
-use Rattle.std.specs.Prelude.{ℕ, ◌≡◌, refl, true, false, List, [], ◌∷◌, ℤ, pos, negsuc}
+use Rattle.std.specs.Prelude.{◌≡◌, refl, true, false, List, [], ◌∷◌, ℤ, pos, negsuc}
 use Rattle.instant.specs.declared.Instant.{Instant}
 use Rattle.tle.specs.declared.Record.{Record}
 use Rattle.satellite.specs.declared.NearEarth.{NearEarth}

@@ -10,16 +10,17 @@ use kept_roster::{lodge_kept, withdraw_kept};
 use roster_calls::{Lodging, Withdrawal};
 
 // Where a call changed the roster, the file is replaced.
-fn keep(failed: &mut bool, name: &[u8], old: &[u8], new: &[u8])
+fn keep(rt: HostRuntime, failed: &mut bool, name: &[u8], old: &[u8], new: &[u8])
     ensures { failed.old ≡ true → failed.new ≡ true }
 {
     if !check::same(old, new) {
-        replace_file(failed, name, new);
+        replace_file(rt, failed, name, new);
     }
 }
 
 // The bytes that were read come twice, as the roster before the call and as the one that it changes.
 fn lodge_over(
+    rt: HostRuntime,
     failed: &mut bool,
     name: &[u8],
     old: &[u8],
@@ -30,35 +31,48 @@ fn lodge_over(
     ensures { Lodges failed.old line1.now line2.now failed.new result }
 {
     let answer = lodge_kept(new, line1, line2);
-    keep(failed, name, old, new);
+    keep(rt, failed, name, old, new);
     answer
 }
 
 // A byte more than a roster has is read, so that a longer file is no roster. One that is not there is an
 // empty roster.
-fn lodge_locked(failed: &mut bool, name: &[u8], line1: &[u8], line2: &[u8]) -> Lodging
+fn lodge_locked(
+    rt: HostRuntime,
+    failed: &mut bool,
+    name: &[u8],
+    line1: &[u8],
+    line2: &[u8],
+) -> Lodging
     ensures { Lodges failed.old line1.now line2.now failed.new result }
 {
     let mut old = [0u8; 8833];
-    let n = read_file_or(failed, name, &mut old, 8832);
+    let n = read_file_or(rt, failed, name, &mut old, 8832);
     let mut new = old;
-    lodge_over(failed, name, &old[..n], &mut new[..n], line1, line2)
+    lodge_over(rt, failed, name, &old[..n], &mut new[..n], line1, line2)
 }
 
 // Lodges the pair of two lines, locked; after a failure the answer says nothing.
-pub fn lodge_in(failed: &mut bool, name: &[u8], line1: &[u8], line2: &[u8]) -> Lodging
+pub fn lodge_in(
+    rt: HostRuntime,
+    failed: &mut bool,
+    name: &[u8],
+    line1: &[u8],
+    line2: &[u8],
+) -> Lodging
     ensures { Lodges failed.old line1.now line2.now failed.new result }
 {
-    lock_file(failed, name);
+    lock_file(rt, failed, name);
     if *failed {
         return Lodging::NoRoster;
     }
-    let answer = lodge_locked(failed, name, line1, line2);
-    unlock_file(failed, name);
+    let answer = lodge_locked(rt, failed, name, line1, line2);
+    unlock_file(rt, failed, name);
     answer
 }
 
 fn withdraw_over(
+    rt: HostRuntime,
     failed: &mut bool,
     name: &[u8],
     old: &[u8],
@@ -68,28 +82,28 @@ fn withdraw_over(
     ensures { Withdraws failed.old number failed.new result }
 {
     let answer = withdraw_kept(new, number);
-    keep(failed, name, old, new);
+    keep(rt, failed, name, old, new);
     answer
 }
 
-fn withdraw_locked(failed: &mut bool, name: &[u8], number: u64) -> Withdrawal
+fn withdraw_locked(rt: HostRuntime, failed: &mut bool, name: &[u8], number: u64) -> Withdrawal
     ensures { Withdraws failed.old number failed.new result }
 {
     let mut old = [0u8; 8833];
-    let n = read_file(failed, name, &mut old);
+    let n = read_file(rt, failed, name, &mut old);
     let mut new = old;
-    withdraw_over(failed, name, &old[..n], &mut new[..n], number)
+    withdraw_over(rt, failed, name, &old[..n], &mut new[..n], number)
 }
 
 // Withdraws a number, locked; after a failure the answer says nothing.
-pub fn withdraw_in(failed: &mut bool, name: &[u8], number: u64) -> Withdrawal
+pub fn withdraw_in(rt: HostRuntime, failed: &mut bool, name: &[u8], number: u64) -> Withdrawal
     ensures { Withdraws failed.old number failed.new result }
 {
-    lock_file(failed, name);
+    lock_file(rt, failed, name);
     if *failed {
         return Withdrawal::NoRoster;
     }
-    let answer = withdraw_locked(failed, name, number);
-    unlock_file(failed, name);
+    let answer = withdraw_locked(rt, failed, name, number);
+    unlock_file(rt, failed, name);
     answer
 }

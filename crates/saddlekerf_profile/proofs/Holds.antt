@@ -11,13 +11,12 @@ use Rattle.elementary.proofs.Branch.{neither}
 use Rattle.instant.specs.declared.Instant.{Instant}
 use Rattle.satellite.specs.declared.NearEarth.{NearEarth}
 use Rattle.satellite.specs.declared.Method.TheVariants as methods
-use Rattle.opening.specs.declared.opening.Satellite.{Satellite}
 use Rattle.requests.specs.Lists.{holding}
 use Rattle.storage.specs.declared.NearLoading.{NearLoading}
 use Rattle.storage.specs.declared.NearLoading.TheVariants.{Loaded, DeepSpace, RoomTooShort}
 use Rattle.storage.specs.Storage.{satellite_of, model_at, method_at, near_earth_at, deep_space_at, place_at, epoch_at}
 use Rattle.storage.specs.Near.{near_short, near_kind, near_loading_of}
-use Rattle.profile.specs.Request.{beyond, beyond_by}
+use Rattle.profile.specs.Request.{beyond}
 use Rattle.profile.proofs.Near.{near_model, near_taken, deep_beyond}
 use Rattle.saddlekerf_profile.specs.Requests.{deep_held}
 

@@ -1,9 +1,8 @@
 -- What the calls leave in memory, from what the calls inside them do.
 use Prim.Native.Nat.{ℕ, ◌<◌, ◌≤◌}
 use mathlib.Core.Path.{◌≡◌, refl, sym, ap, ◌∙◌}
-use mathlib.Core.Bool.{Bool, true, false, cond, ◌||◌, not}
-use mathlib.Core.List.{List, [], ◌∷◌, map}
-use native.Mathlib.Omega.{arith}
+use mathlib.Core.Bool.{Bool, true, false, cond, ◌||◌}
+use mathlib.Core.List.{List, [], ◌∷◌}
 use lib.Dec.{eqb, ltb}
 use lib.IntN.{ℤ}
 use lib.ListN.{length}
@@ -14,12 +13,10 @@ use Rattle.satellite.specs.declared.NearEarth.{NearEarth}
 use Rattle.resonance.specs.declared.place.Place.{Place}
 use Rattle.sgp4.specs.declared.Row.{Row}
 use Rattle.sgp4.specs.Row.{refused_row}
-use Rattle.opening.specs.declared.opening.Satellite.{Satellite}
 use Rattle.requests.specs.declared.Answered.{Answered}
-use Rattle.requests.specs.Request as F
 use Rattle.requests.specs.Lists.{holding, satellite_from, list_refusal, list_times, refusals_of, states_of, rounds_of, over}
-use Rattle.lent_requests.specs.Requests.{row_put, row_times}
-use Rattle.storage.specs.Storage.{satellite_of, place_at, place_numbers, place_marks}
+use Rattle.lent_requests.specs.Requests.{row_put}
+use Rattle.storage.specs.Storage.{place_at, place_numbers, place_marks}
 use Rattle.storage.specs.Near.{near_short, near_kind}
 use Rattle.profile.specs.declared.rows.Asked.{Asked}
 use Rattle.profile.specs.declared.rows.Listed.{Listed}
@@ -30,8 +27,7 @@ use Rattle.profile.specs.Rows.{near_row, near_rows}
 use Rattle.profile.proofs.Near.{near_model, near_row_lem, near_place, near_asked_lem, settled_twice}
 use Rattle.profile.proofs.Same.{no_strides}
 use Rattle.answers.specs.Answer.{answer}
-use Rattle.saddlekerf_profile.specs.Requests as R
-use Rattle.saddlekerf_profile.specs.Requests.{deep_held, request_number, kept_numbers, kept_marks, Requested, RequestPost, list_number, saved_numbers, saved_marks, ListPost, settled_numbers, settled_marks, near_kept_numbers, near_kept_marks, NearAsked, near_saved_numbers, near_saved_marks, short_list}
+use Rattle.saddlekerf_profile.specs.Requests.{request_number, kept_numbers, kept_marks, Requested, RequestPost, list_number, saved_numbers, saved_marks, ListPost, settled_numbers, settled_marks, near_kept_numbers, near_kept_marks, NearAsked, near_saved_numbers, near_saved_marks, short_list}
 use Rattle.saddlekerf_profile.proofs.Holds.{Near, near_satellite_lem, held_short, held_kind, epoch_in}
 
 -- ── the near-Earth satellite's own calls ──

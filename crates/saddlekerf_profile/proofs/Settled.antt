@@ -7,7 +7,6 @@ use lib.ListN.{length, set, get_or}
 use lib.Ieee.{Float}
 use borrow.Author.Tests.{eq-eqb, ne_eqb}
 use Rattle.elementary.specs.Notation.{dec}
-use Rattle.resonance.specs.declared.place.Place.{Place}
 use Rattle.resonance.specs.declared.place.Side.TheVariants.{Forward}
 use Rattle.resonance.specs.Place.{epoch_of, at_epoch, facing}
 use Rattle.sgp4.specs.Sgp4.{no_integrator}

@@ -1,6 +1,6 @@
 -- Requests put to a satellite in memory that is lent: what the profile (specs/Request of crate profile) gives for the satellite that lies there by the full
 -- program's layout, and what is left in memory. Definitions only.
-use Rattle.std.specs.Prelude.{ℕ, ◌≡◌, Bool, false, cond, ◌||◌, List, [], eqb, ltb, ℤ, length, Float}
+use Rattle.std.specs.Prelude.{ℕ, ◌≡◌, Bool, false, cond, ◌||◌, List, eqb, ltb, ℤ, length, Float}
 use Rattle.sgp4.specs.declared.Row.{Row}
 use Rattle.resonance.specs.declared.place.Place.{Place}
 use Rattle.opening.specs.declared.opening.Satellite.{Satellite}

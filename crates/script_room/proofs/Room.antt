@@ -7,7 +7,7 @@ use native.Mathlib.Omega.{arith}
 use lib.ListN.{length, take, drop, get_or, take-append-drop}
 use lib.Seq.{drop-cons, drop-length, take-suc, take-length}
 use lib.Dec.{eqb, leb, ltb}
-use mathlib.Core.Bool.{Bool, true, false, not, ◌&&◌}
+use mathlib.Core.Bool.{Bool, true, false, ◌&&◌}
 use borrow.Author.Tests.{le-leb, lt-leb, lt-ltb, ltb-true, eq-eqb, eqb-true}
 use Rattle.script_room.specs.Room.{taken, needed, roomy, room_for, due}
 
@@ -66,14 +66,6 @@ fits_all l room left i e h k =
     sym (le-leb (needed l) room (omega (arith, ap needed w)))
 
 -- ── whether all have room ──
-
-pub said_no : (b : Bool) → not b ≡ true → b ≡ false
-said_no true h = sym h
-said_no false h = refl
-
-pub said_yes : (b : Bool) → not b ≡ false → b ≡ true
-said_yes true h = refl
-said_yes false h = sym h
 
 pub short_1 : (ns : List ℕ) (t a b c d : ℕ) → leb (needed ns) t ≡ false → false ≡ room_for ns t a b c d
 unfolding room_for

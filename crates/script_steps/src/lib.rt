@@ -21,7 +21,7 @@ struct Stepped {
 }
 
 // The next request: its times are put as one list, which is lent what is left of the rooms. One time is
-// a list of one (`one-Alike` of proofs/Rooms); a call for windows
+// a list of one (`one_alike` of proofs/Rooms); a call for windows
 // has none.
 fn step(
     s: Satellite,

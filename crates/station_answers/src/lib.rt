@@ -18,19 +18,26 @@ use text::put_line;
 
 // ---- Windows.
 
-fn print_window(failed: &mut bool, first: u64, last: u64, step: u64)
+fn print_window(rt: HostRuntime, failed: &mut bool, first: u64, last: u64, step: u64)
     ensures { failed.old ≡ true → failed.new ≡ true }
 {
     let mut out = [0u8; 128];
     let samples = samples_in(Instant(first), Instant(last), step);
     let n = put_window(&mut out, 0, Instant(first), Instant(last), samples);
     if n <= 128 {
-        streams::print(failed, &out[0..n]);
+        streams::print(rt, failed, &out[0..n]);
     }
 }
 
 // The first `count` windows of the rooms, a line each.
-fn print_windows(failed: &mut bool, firsts: &[u64; 512], lasts: &[u64; 512], count: u64, step: u64)
+fn print_windows(
+    rt: HostRuntime,
+    failed: &mut bool,
+    firsts: &[u64; 512],
+    lasts: &[u64; 512],
+    count: u64,
+    step: u64,
+)
     ensures { failed.old ≡ true → failed.new ≡ true }
 {
     let mut i = 0;
@@ -38,23 +45,24 @@ fn print_windows(failed: &mut bool, firsts: &[u64; 512], lasts: &[u64; 512], cou
         if i as u64 >= count {
             return;
         }
-        print_window(failed, firsts[i], lasts[i], step);
+        print_window(rt, failed, firsts[i], lasts[i], step);
         i += 1;
     }
 }
 
-fn print_strides(failed: &mut bool, strides: u64)
+fn print_strides(rt: HostRuntime, failed: &mut bool, strides: u64)
     ensures { failed.old ≡ true → failed.new ≡ true }
 {
     let mut out = [0u8; 64];
     let n = put_line(&mut out, 0, b"strides ", strides);
     if n <= 64 {
-        streams::print(failed, &out[0..n]);
+        streams::print(rt, failed, &out[0..n]);
     }
 }
 
 // An answer has its refusal in bits 0-7, the number of windows in bits 16-31 and the strides above.
 fn answer_windows(
+    rt: HostRuntime,
     failed: &mut bool,
     numbers: &mut [f64; 83],
     marks: &mut [u32; 6],
@@ -79,11 +87,11 @@ fn answer_windows(
         &mut lasts,
     );
     if a % 256 != 0 {
-        print_refused(failed, a % 256);
+        print_refused(rt, failed, a % 256);
         return;
     }
-    print_windows(failed, &firsts, &lasts, a / 65536 % 65536, step);
-    print_strides(failed, a / 4294967296);
+    print_windows(rt, failed, &firsts, &lasts, a / 65536 % 65536, step);
+    print_strides(rt, failed, a / 4294967296);
 }
 
 // ---- Passes.
@@ -99,6 +107,7 @@ fn capped(n: u64) -> u32
 }
 
 fn answer_passes(
+    rt: HostRuntime,
     failed: &mut bool,
     numbers: &[f64; 83],
     marks: &[u32; 6],
@@ -112,15 +121,16 @@ fn answer_passes(
     let count = capped(samples.count);
     match load(numbers, marks) {
         Loading::Loaded(s) => {
-            print_passes(failed, s, station, least, start.0, samples.step, count)
+            print_passes(rt, failed, s, station, least, start.0, samples.step, count)
         }
-        Loading::RoomTooShort => print_refused(failed, 17),
+        Loading::RoomTooShort => print_refused(rt, failed, 17),
     }
 }
 
 // ---- The call.
 
 fn answer_at(
+    rt: HostRuntime,
     failed: &mut bool,
     numbers: &mut [f64; 83],
     marks: &mut [u32; 6],
@@ -130,21 +140,27 @@ fn answer_at(
     ensures { failed.old ≡ true → failed.new ≡ true }
 {
     match place {
-        Place::Fixed { x, y, z } => answer_windows(failed, numbers, marks, [x, y, z], samples),
+        Place::Fixed { x, y, z } => answer_windows(rt, failed, numbers, marks, [x, y, z], samples),
         Place::Over { station, least } => {
-            answer_passes(failed, numbers, marks, station, least, samples)
+            answer_passes(rt, failed, numbers, marks, station, least, samples)
         }
         Place::Unread => {}
     }
 }
 
 // The answer of the satellite in memory; none where a line was not read.
-pub fn answer(failed: &mut bool, numbers: &mut [f64; 83], marks: &mut [u32; 6], call: Call)
+pub fn answer(
+    rt: HostRuntime,
+    failed: &mut bool,
+    numbers: &mut [f64; 83],
+    marks: &mut [u32; 6],
+    call: Call,
+)
     ensures { failed.old ≡ true → failed.new ≡ true }
 {
     let place = call.place;
     match samples_of(call) {
-        Sampling::At(samples) => answer_at(failed, numbers, marks, place, samples),
+        Sampling::At(samples) => answer_at(rt, failed, numbers, marks, place, samples),
         Sampling::Unread => {}
     }
 }

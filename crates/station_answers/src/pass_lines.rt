@@ -57,6 +57,7 @@ pub fn put_passing(
 }
 
 fn print_passing(
+    rt: HostRuntime,
     failed: &mut bool,
     satellite: Satellite,
     station: Geodetic,
@@ -68,13 +69,14 @@ fn print_passing(
     let mut out = [0u8; 256];
     let n = put_passing(&mut out, 0, satellite, station, count, found);
     if n <= 256 {
-        streams::print(failed, &out[0..n]);
+        streams::print(rt, failed, &out[0..n]);
     }
 }
 
 // One pass after the other on standard output. Each has a sample at least, so that there are no more than
 // samples.
 pub fn print_passes(
+    rt: HostRuntime,
     failed: &mut bool,
     satellite: Satellite,
     station: Geodetic,
@@ -90,7 +92,7 @@ pub fn print_passes(
     let mut count = 0u64;
     while count < 4294967295 {
         let found = next_pass(satellite, station, least, Instant(t), Seconds(step), left);
-        print_passing(failed, satellite, station, count, found);
+        print_passing(rt, failed, satellite, station, count, found);
         if *failed {
             return;
         }

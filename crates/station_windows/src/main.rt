@@ -12,14 +12,15 @@ use station_answers::answer;
 use station_lines::pair::read_pair;
 use station_lines::{read_call, tell_faults};
 
-fn main() {
+fn main(rt: HostRuntime) {
     let mut failed = false;
     let mut numbers = [0f64; 83];
     let mut marks = [0u32; 6];
-    let mut buffer = io::buffer();
+    let mut buffer = [0u8; 4096];
     let mut line = [0u8; 4096];
     let mut first = [0u8; 70];
     let pair = read_pair(
+        rt,
         &mut failed,
         &mut first,
         &mut buffer,
@@ -28,16 +29,16 @@ fn main() {
         &mut marks,
     );
     let input = pair.input;
-    let call = read_call(&mut failed, input, &mut buffer);
+    let call = read_call(rt, &mut failed, input, &mut buffer);
     if failed {
         return;
     }
-    if !tell_faults(call) {
+    if !tell_faults(rt, call) {
         return;
     }
     if pair.refusal != 0 {
-        print_refused(&mut failed, pair.refusal);
+        print_refused(rt, &mut failed, pair.refusal);
         return;
     }
-    answer(&mut failed, &mut numbers, &mut marks, call);
+    answer(rt, &mut failed, &mut numbers, &mut marks, call);
 }

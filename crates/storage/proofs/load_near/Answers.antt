@@ -1,3 +1,4 @@
+use native.Mathlib.Omega.{arith}
 use Prim.Native.Nat.{ℕ, ◌≤◌}
 use mathlib.Core.Path.{◌≡◌, sym, ap, ◌∙◌}
 use mathlib.Core.Bool.{Bool, cond, not}
@@ -32,10 +33,8 @@ returns-then-marks-lt6 c = simp (le-ltb _ _ c.if-numbers-lt36.false, lt-ltb _ _ 
 pub returns-then-marks-ne0 : goal.returns-then-marks-ne0
 unfolding near_loading_of near_short
 returns-then-marks-ne0 c =
-    simp (le-ltb _ _ c.if-numbers-lt36.false, le-ltb _ _ c.if-marks-lt6.false, ne_eqb _ _ c.if-marks-ne0.true)
+    simp (le-ltb _ _ c.if-numbers-lt36.false, le-ltb _ _ c.if-marks-lt6.false, ne_eqb (get_or c.args.marks.now 3 0) 0 (λ z. omega arith))
 
 pub returns : goal.returns
 returns c =
-    let e = c.before.before in
-    let m = e in
-    loads _ _ _ m.if-numbers-lt36.false m.if-marks-lt6.false e.if-marks-ne0.false c.near_earth_at.ensures
+    loads _ _ _ c.if-numbers-lt36.false c.if-marks-lt6.false (omega arith) c.near_earth_at.ensures

@@ -12,16 +12,16 @@ pub loop-k-init : goal.loop-k-init
 loop-k-init c = timing_none _ _ _ _ _ _ refl (omega arith)
 
 pub returns-then-t-ge3155760000000000 : goal.returns-then-t-ge3155760000000000
-returns-then-t-ge3155760000000000 c = timing_out _ _ _ _ _ _ _ _ c.loop-k.invariant c.if-t-ge3155760000000000.true
+returns-then-t-ge3155760000000000 c = timing_out _ _ _ _ _ _ _ _ c.loop-k.invariant (omega arith)
 
 pub time_since-requires : goal.time_since-requires
-time_since-requires c = record { t_bound = c.if-t-ge3155760000000000.false; epoch_bound = omega arith }
+time_since-requires c = record { t_bound = omega arith; epoch_bound = omega arith }
 
 pub loop-k-preserved : goal.loop-k-preserved
 loop-k-preserved c =
     let v = c.time_since.ensures in
-    timing_more _ _ _ _ _ _ _ _ c.loop-k.invariant c.loop-k-test.true c.if-t-ge3155760000000000.false _
-    (to_z-of_z w64 _ (subst (λ (z : ℤ). SFits w64 z) (sym v) (difference_fits _ _ c.if-t-ge3155760000000000.false (omega arith))) ∙ v)
+    timing_more _ _ _ _ _ _ _ _ c.loop-k.invariant c.loop-k-test.true (omega arith) _
+    (to_z-of_z w64 _ (subst (λ (z : ℤ). SFits w64 z) (sym v) (difference_fits _ _ (omega arith) (omega arith))) ∙ v)
 
 pub returns : goal.returns
 returns c = timing_done _ _ _ _ _ _ _ _ c.loop-k.invariant c.loop-k-test.false
