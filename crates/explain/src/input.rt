@@ -18,11 +18,11 @@ pub(crate) struct Tally {
     pub well: u64,
 }
 
-fn print_text(failed: &mut bool, out: &[u8], n: usize)
+fn print_text(rt: HostRuntime, failed: &mut bool, out: &[u8], n: usize)
     ensures { failed.old ≡ true → failed.new ≡ true }
 {
     if n <= out.len() {
-        streams::print(failed, &out[0..n]);
+        streams::print(rt, failed, &out[0..n]);
     }
 }
 
@@ -50,18 +50,19 @@ fn put_told(out: &mut [u8], first: u64, second: u64, line1: &[u8], line2: &[u8])
 }
 
 // A line for every 10,000 pairs.
-fn tell_progress(pairs: u64) {
+fn tell_progress(rt: HostRuntime, pairs: u64) {
     if pairs % 10000 == 0 {
         let mut out = [0u8; 64];
         let n = put_progress(&mut out, 0, pairs);
         if n <= out.len() {
-            io::write_all(libc::STDERR_FILENO, &out[0..n]);
+            streams::tell(rt, &out[0..n]);
         }
     }
 }
 
 // The explanation of a pair, with its heading, has 600 bytes at most.
 fn explain_pair(
+    rt: HostRuntime,
     failed: &mut bool,
     t: Tally,
     first: u64,
@@ -73,14 +74,15 @@ fn explain_pair(
 {
     let mut out = [0u8; 1024];
     let n = put_told(&mut out, first, second, line1, line2);
-    print_text(failed, &out, n);
+    print_text(rt, failed, &out, n);
     let t = counted(t, is_well(line1, line2));
-    tell_progress(t.pairs);
+    tell_progress(rt, t.pairs);
     t
 }
 
 // A pair is explained; what is said of a line that is in none has 163 bytes at most.
 fn take_step(
+    rt: HostRuntime,
     failed: &mut bool,
     t: Tally,
     step: Step,
@@ -96,32 +98,40 @@ fn take_step(
             let pairs = step.pairs;
             let n = whole_in(n, line1);
             let m = whole_in(m, line2);
-            explain_pair(failed, t, step.first, pairs.lines, &line1[..n], &line2[..m])
+            explain_pair(
+                rt,
+                failed,
+                t,
+                step.first,
+                pairs.lines,
+                &line1[..n],
+                &line2[..m],
+            )
         }
         What::Said(n) => {
-            print_text(failed, out, n);
+            print_text(rt, failed, out, n);
             t
         }
         What::Over => t,
     }
 }
 
-fn print_summary(failed: &mut bool, lines: u64, t: Tally)
+fn print_summary(rt: HostRuntime, failed: &mut bool, lines: u64, t: Tally)
     ensures { failed.old ≡ true → failed.new ≡ true }
 {
     let mut out = [0u8; 128];
     let n = put_summary(&mut out, 0, lines, t.pairs, t.well);
-    print_text(failed, &out, n);
+    print_text(rt, failed, &out, n);
 }
 
 // A proved loop has to end, and nothing says that the input does. So it counts its turns down, from a
 // number that no run uses up.
-pub(crate) fn explain_text(failed: &mut bool)
+pub(crate) fn explain_text(rt: HostRuntime, failed: &mut bool)
     ensures { failed.old ≡ true → failed.new ≡ true }
 {
-    let mut buffer = io::buffer();
-    let mut line1 = io::buffer();
-    let mut line = io::buffer();
+    let mut buffer = [0u8; 4096];
+    let mut line1 = [0u8; 4096];
+    let mut line = [0u8; 4096];
     let mut out = [0u8; 256];
     let mut input = Input::start();
     let mut pairs = Pairs::start();
@@ -129,6 +139,7 @@ pub(crate) fn explain_text(failed: &mut bool)
     let mut turns = u64::MAX;
     while turns > 0 {
         let next = next_step(
+            rt,
             failed,
             input,
             pairs,
@@ -142,10 +153,10 @@ pub(crate) fn explain_text(failed: &mut bool)
         pairs = step.pairs;
         let what = step.what;
         if what.is_over() {
-            print_summary(failed, pairs.lines, t);
+            print_summary(rt, failed, pairs.lines, t);
             return;
         }
-        t = take_step(failed, t, step, &line1, &line, &out);
+        t = take_step(rt, failed, t, step, &line1, &line, &out);
         turns -= 1;
     }
 }

@@ -8,7 +8,7 @@ mod input; // the pairs, one after the other
 
 use input::explain_text;
 
-fn main() {
+fn main(rt: HostRuntime) {
     let mut failed = false;
-    explain_text(&mut failed);
+    explain_text(rt, &mut failed);
 }
