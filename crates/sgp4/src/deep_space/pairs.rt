@@ -81,29 +81,8 @@ fn axis_of(nm: f64) -> f64
     two_thirds(xke() / nm)
 }
 
-// Without resonance the mean motion is that of the set-up, so that one power serves both.
-fn axes_of(kind: Resonance, nm: f64, nm2: f64) -> Axes
-    requires { kind ≡ None → nm ≡ nm2 }
-    ensures { (result.first ≡ W.axis_of nm) × (result.second ≡ W.axis_of nm2) }
-{
-    let first = axis_of(nm);
-    match kind {
-        Resonance::None => Axes {
-            first,
-            second: first,
-        },
-        Resonance::OneDay(_) => Axes {
-            first,
-            second: axis_of(nm2),
-        },
-        Resonance::HalfDay(_) => Axes {
-            first,
-            second: axis_of(nm2),
-        },
-    }
-}
-
-fn moved_two(
+// The mean elements at both times, of the powers that they begin with.
+fn moved_by(
     ls: LunarSolar,
     n: f64,
     t: Minutes,
@@ -137,6 +116,52 @@ fn moved_two(
     averaged_two(ls, n, first, second)
 }
 
+fn moved_two(
+    ls: LunarSolar,
+    n: f64,
+    t: Minutes,
+    d: resonance::dspace::Mean,
+    g: Secular,
+    t2: Minutes,
+    d2: resonance::dspace::Mean,
+    g2: Secular,
+) -> ReadyPair
+    ensures { result ≡ W.moved_two ls n t d g t2 d2 g2 }
+{
+    let first = axis_of(d.nm);
+    let second = axis_of(d2.nm);
+    moved_by(ls, n, t, d, g, t2, d2, g2, Axes { first, second })
+}
+
+// Without resonance the mean motion is that of the set-up, so that one power serves both.
+fn moved_as(
+    kind: Resonance,
+    ls: LunarSolar,
+    n: f64,
+    t: Minutes,
+    d: resonance::dspace::Mean,
+    g: Secular,
+    t2: Minutes,
+    d2: resonance::dspace::Mean,
+    g2: Secular,
+) -> ReadyPair
+    requires { kind ≡ None → d.nm ≡ d2.nm }
+    ensures { result ≡ W.moved_two ls n t d g t2 d2 g2 }
+{
+    match kind {
+        Resonance::None => {
+            let first = axis_of(d.nm);
+            let a = Axes {
+                first,
+                second: first,
+            };
+            moved_by(ls, n, t, d, g, t2, d2, g2, a)
+        }
+        Resonance::OneDay(_) => moved_two(ls, n, t, d, g, t2, d2, g2),
+        Resonance::HalfDay(_) => moved_two(ls, n, t, d, g, t2, d2, g2),
+    }
+}
+
 // The satellite at t and at t2, up to the long-period terms; `h` and `h2` are the positions of the
 // whole strides that these need, with the derivatives there.
 pub fn deep_two(s: NearEarth, d: DeepSpace, h: Held, t: Minutes, h2: Held, t2: Minutes) -> ReadyPair
@@ -156,6 +181,5 @@ pub fn deep_two(s: NearEarth, d: DeepSpace, h: Held, t: Minutes, h2: Held, t2: M
     let u = updated(g, e);
     let u2 = updated(g2, e2);
     let kind = integrator.resonance;
-    let a = axes_of(kind, e.nm, e2.nm);
-    moved_two(ls, s.elements.no, t, e, u, t2, e2, u2, a)
+    moved_as(kind, ls, s.elements.no, t, e, u, t2, e2, u2)
 }

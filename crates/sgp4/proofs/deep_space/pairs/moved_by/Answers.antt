@@ -1,7 +1,7 @@
 use Rattle.state.specs.Secular.{mean}
 use Rattle.state.specs.Kept.{mean_from}
 use Rattle.sgp4.specs.Two.{axis_of, drift_of, moved_two}
-use Rattle.sgp4.proofs.deep_space.pairs.moved_two.Goals as goal
+use Rattle.sgp4.proofs.deep_space.pairs.moved_by.Goals as goal
 
 pub returns-then-no_motion : goal.returns-then-no_motion
 unfolding moved_two
