@@ -86,9 +86,7 @@ pub fn print_decimal(rt: HostRuntime, failed: &mut bool, n: u64)
 {
     let mut digits = [0u8; 20];
     let k = put_decimal(&mut digits, 0, n);
-    if k <= 20 {
-        print(rt, failed, &digits[0..k]);
-    }
+    print(rt, failed, &digits[0..k]);
 }
 
 // Reads a reader to its end, or until the space is full.
