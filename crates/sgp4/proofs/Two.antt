@@ -7,10 +7,6 @@ use Rattle.instant.specs.declared.Minutes.{Minutes}
 use Rattle.satellite.specs.declared.NearEarth.{NearEarth}
 use Rattle.satellite.specs.declared.LunarSolar.{LunarSolar}
 use Rattle.satellite.specs.declared.DeepSpace.{DeepSpace}
-use Rattle.satellite.specs.declared.Integrator.{Integrator}
-use Rattle.satellite.specs.declared.Resonance.{Resonance}
-use Rattle.satellite.specs.declared.Resonance.TheVariants.{None}
-use Rattle.satellite.specs.declared.SecularRates.{SecularRates}
 use Rattle.satellite.specs.declared.Model.{Model}
 use Rattle.satellite.specs.declared.Method.{Method}
 use Rattle.satellite.specs.declared.Method.TheVariants as methods
@@ -29,8 +25,7 @@ use Rattle.periodics.specs.declared.dpper.Perturbed as dpper
 use Rattle.resonance.specs.declared.place.Place.{Place}
 use Rattle.resonance.specs.declared.held.Held.{Held}
 use Rattle.resonance.specs.declared.dspace.Mean as dspace
-use Rattle.resonance.specs.declared.dots.Dots.{Dots}
-use Rattle.resonance.specs.Dspace.{secular_update, resonant_of, dspace_by, dspace_of}
+use Rattle.resonance.specs.Dspace.{dspace_of}
 use Rattle.resonance.specs.Held.{held_at}
 use Rattle.sgp4.specs.declared.Row.{Row}
 use Rattle.sgp4.specs.declared.pairs.Rows.{Rows}
@@ -40,26 +35,6 @@ use Rattle.sgp4.specs.Sgp4.{integrator_by, integrator_of}
 use Rattle.sgp4.specs.Row.{row_of}
 use Rattle.sgp4.specs.Kept.{state_by_from, state_from, row_from}
 use Rattle.sgp4.specs.Two.{ready_of, perturbed_two, averaged_two, drift_of, moved_two, deep_two, ready_by, rows_of, rows_by}
-
--- ── without resonance the mean motion is the one handed in, at every time ──
-
-without : (k : Resonance) (i : Integrator) (n l theta : Float) (m : dspace.Mean) → k ≡ None → (resonant_of k i n l theta m).nm ≡ m.nm
-unfolding resonant_of
-without k i n l theta m h = ap (λ (q : Resonance). (resonant_of q i n l theta m).nm) h
-
-unmoved : (d : Dots) (p : Place) (i : Integrator) (r : SecularRates) (m : dspace.Mean) (t : Minutes) → i.resonance ≡ None → (dspace_by d p i r m t).nm ≡ m.nm
-unfolding dspace_by secular_update
-unmoved d p i r m t h = without _ i _ _ _ _ h
-
-pub alike : (d d2 : Dots) (p p2 : Place) (i : Integrator) (r : SecularRates) (m m2 : dspace.Mean) (t t2 : Minutes) (e e2 : dspace.Mean)
-    → e ≡ dspace_by d p i r m t → e2 ≡ dspace_by d2 p2 i r m2 t2 → m.nm ≡ m2.nm → i.resonance ≡ None → e.nm ≡ e2.nm
-alike d d2 p p2 i r m m2 t t2 e e2 he he2 hm h =
-    ap (λ (x : dspace.Mean). x.nm) he
-    ∙ unmoved d p i r m t h
-    ∙ hm
-    ∙ sym (ap (λ (x : dspace.Mean). x.nm) he2 ∙ unmoved d2 p2 i r m2 t2 h)
-
--- ── two times ──
 
 perturbed_readied : (x : dpper.Perturbed) (m : Float) (x2 : dpper.Perturbed) (m2 : Float) → Readied (perturbed_two x m x2 m2) (perturbed x m) (perturbed x2 m2)
 unfolding perturbed_two perturbed ready_of

@@ -1,12 +1,9 @@
 -- Two times at once, as crate `state` has them for near Earth, under method 'd' and over both methods; they serve speed alone. proofs/Two: where the
 -- derivatives handed in are those of the positions, what they come to is what each time comes to by itself. Definitions only.
 use Rattle.std.specs.Prelude.{cond, ◌||◌, false, ℤ, Float}
-use Rattle.elementary.specs.Notation.{◌⊘◌}
 use Rattle.elementary.specs.Trig.{sin_of, cos_of}
-use Rattle.elementary.specs.Power.{pow23}
 use Rattle.instant.specs.Quantity.{minutes_of}
 use Rattle.instant.specs.declared.Minutes.{Minutes}
-use Rattle.wgs72.specs.Getgravconst.{xke}
 use Rattle.satellite.specs.declared.NearEarth.{NearEarth}
 use Rattle.satellite.specs.declared.LunarSolar.{LunarSolar}
 use Rattle.satellite.specs.declared.DeepSpace.{DeepSpace}
@@ -53,10 +50,6 @@ averaged_two ls n a b =
     a.m.am
     (righted (dpper_of false ls b.t (averages b.m.em b.inclm (angles n b.g))))
     b.m.am)
-
--- pow(xke / nm, x2o3), which `mean` begins with
-unfoldable pub axis_of : Float → Float
-axis_of nm = pow23 (xke ⊘ nm)
 
 -- the mean elements of what dspace gives
 unfoldable pub drift_of : Minutes → dspace.Mean → Secular → Drift
