@@ -17,10 +17,7 @@ use Rattle.tle.specs.declared.Line.{Line}
 use Rattle.tle.specs.declared.Line.TheVariants.{One, Two}
 use Rattle.tle.specs.declared.Refusal.{Refusal}
 use Rattle.tle.specs.declared.Refusal.TheVariants.{Length, Start, Column, Checksum, Numbers, Range, NoForm}
-use Rattle.tle.specs.declared.Verdict.{Verdict}
-use Rattle.tle.specs.declared.Verdict.TheVariants as verdict
-use Rattle.tle.specs.declared.Reading.{Reading}
-use Rattle.tle.specs.declared.Reading.TheVariants as reading
+use Rattle.std.specs.Prelude.{Err, Ok, Result}
 use Rattle.answers.specs.Refusals.{ColumnFits, in_bits}
 
 one_more : (t : Bool) (n m : ℕ) → n ≤ m → cond t (suc n) 0 ≤ suc m
@@ -38,9 +35,9 @@ by : {B : Type 0} (P : B → Type 0) (t : Bool) (refused next : B) → (t ≡ fa
 by P true refused next f g = g refl
 by P false refused next f g = f refl
 
-abbrev VerdictFits : Verdict → Type 0
-VerdictFits verdict.Lawful = Unit {0}
-VerdictFits (verdict.Refused why) = ColumnFits why
+abbrev VerdictFits : Result (Unit {0}) Refusal → Type 0
+VerdictFits (Ok tt) = Unit {0}
+VerdictFits (Err why) = ColumnFits why
 
 line_fits : (which : Line) (layout line : List ℕ) → VerdictFits (verdict_of which layout line)
 unfolding verdict_of
@@ -54,25 +51,25 @@ line_fits which layout line =
     below : (n m : ℕ) → n ≤ m → m ≡ 69 → (n ≡ 69 → ⊥) → n + 1 ≤ 69
     below n m h e d = omega (arith, d)
 
-then_fits : (first second : Verdict) → VerdictFits first → VerdictFits second → VerdictFits (then first second)
-then_fits verdict.Lawful second h g = g
-then_fits (verdict.Refused why) second h g = h
+then_fits : (first second : Result (Unit {0}) Refusal) → VerdictFits first → VerdictFits second → VerdictFits (then first second)
+then_fits (Ok tt) second h g = g
+then_fits (Err why) second h g = h
 
-numbers_fit : (t : Bool) → VerdictFits (unless t (verdict.Refused Numbers) verdict.Lawful)
+numbers_fit : (t : Bool) → VerdictFits (unless t (Err Numbers) (Ok tt))
 numbers_fit true = tt
 numbers_fit false = tt
 
 pair_fits : (line1 line2 : List ℕ) → VerdictFits (pair_of line1 line2)
 unfolding pair_of
 pair_fits line1 line2 =
-    let numbers = unless (eqb (number_at line1) (number_at line2)) (verdict.Refused Numbers) verdict.Lawful in
+    let numbers = unless (eqb (number_at line1) (number_at line2)) (Err Numbers) (Ok tt) in
     let second = verdict_of Two layout2 line2 in
     then_fits (verdict_of One layout1 line1) (then second numbers) (line_fits One layout1 line1)
     (then_fits second numbers (line_fits Two layout2 line2) (numbers_fit (eqb (number_at line1) (number_at line2))))
 
-abbrev pub ReadingFits : Reading → Type 0
-ReadingFits (reading.Record r) = Unit {0}
-ReadingFits (reading.Refused why) = ColumnFits why
+abbrev pub ReadingFits : Result Record Refusal → Type 0
+ReadingFits (Ok r) = Unit {0}
+ReadingFits (Err why) = ColumnFits why
 
 pub ranges_fit : (r : Record) → ReadingFits (ranges_of r)
 unfolding ranges_of
@@ -84,16 +81,16 @@ ranges_fit r =
     (λ h. by ReadingFits (angle_in_range r.anomaly) _ _ (λ h. tt)
     (λ h. by ReadingFits (motion_in_range r.motion) _ _ (λ h. tt) (λ h. tt))))))
 
-form_fits : (v : Verdict) (r : Record) → VerdictFits v → ReadingFits (ranged (formed v r))
-form_fits verdict.Lawful r h = ranges_fit r
-form_fits (verdict.Refused why) r h = h
+form_fits : (v : Result (Unit {0}) Refusal) (r : Record) → VerdictFits v → ReadingFits (ranged (formed v r))
+form_fits (Ok tt) r h = ranges_fit r
+form_fits (Err why) r h = h
 
 pub reading_fits : (line1 line2 : List ℕ) → ReadingFits (read_of line1 line2)
 unfolding read_of form_of
 reading_fits line1 line2 = form_fits (pair_of line1 line2) (fields_of line1 line2) (pair_fits line1 line2)
 
 -- of every refusal that reading gives
-pub columns_fit : (line1 line2 : List ℕ) (why : Refusal) → read_of line1 line2 ≡ reading.Refused why → ColumnFits why
+pub columns_fit : (line1 line2 : List ℕ) (why : Refusal) → read_of line1 line2 ≡ Err why → ColumnFits why
 columns_fit line1 line2 why e = subst ReadingFits e (reading_fits line1 line2)
 
 -- whose column then stays as it is
@@ -107,5 +104,5 @@ fits_bits Numbers h = refl
 fits_bits (Range field) h = refl
 fits_bits NoForm h = refl
 
-pub read_in_bits : (line1 line2 : List ℕ) (why : Refusal) → read_of line1 line2 ≡ reading.Refused why → in_bits why ≡ why
+pub read_in_bits : (line1 line2 : List ℕ) (why : Refusal) → read_of line1 line2 ≡ Err why → in_bits why ≡ why
 read_in_bits line1 line2 why e = fits_bits why (columns_fit line1 line2 why e)

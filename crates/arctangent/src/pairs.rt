@@ -7,10 +7,11 @@ ghost use Rattle.arctangent.specs.Two.{ordinary, tangent, quarter_of};
 use crate::{arctan_series, atan2, halve, place};
 use floats::{HALF_PI, abs, is_finite};
 
+// The same of two: points here, and times in the crates above.
 #[derive(Clone, Copy)]
-pub struct Angles {
-    pub first: f64,
-    pub second: f64,
+pub struct Two<T> {
+    pub first: T,
+    pub second: T,
 }
 
 // Finite, and not the origin.
@@ -34,7 +35,7 @@ fn in_quarter(ay: f64, ax: f64, a: f64) -> f64
     if ay > ax { HALF_PI - a } else { a }
 }
 
-fn small_arctans(t: f64, t2: f64) -> Angles
+fn small_arctans(t: f64, t2: f64) -> Two<f64>
     ensures { (result.first ≡ arctan t) × (result.second ≡ arctan t2) }
 {
     let h = halve(t);
@@ -43,11 +44,11 @@ fn small_arctans(t: f64, t2: f64) -> Angles
     let h2 = halve(h2);
     let first = arctan_series(h);
     let second = arctan_series(h2);
-    Angles { first, second }
+    Two { first, second }
 }
 
 // The angles of the points (x, y) and (x2, y2).
-pub fn atan2_two(y: f64, x: f64, y2: f64, x2: f64) -> Angles
+pub fn atan2_two(y: f64, x: f64, y2: f64, x2: f64) -> Two<f64>
     ensures { (result.first ≡ atan2_of y x) × (result.second ≡ atan2_of y2 x2) }
 {
     if is_ordinary(y, x) & is_ordinary(y2, x2) {
@@ -56,12 +57,12 @@ pub fn atan2_two(y: f64, x: f64, y2: f64, x2: f64) -> Angles
         let ay2 = abs(y2);
         let ax2 = abs(x2);
         let a = small_arctans(tangent_of(ay, ax), tangent_of(ay2, ax2));
-        return Angles {
+        return Two {
             first: place(y, x, in_quarter(ay, ax, a.first)),
             second: place(y2, x2, in_quarter(ay2, ax2, a.second)),
         };
     }
-    Angles {
+    Two {
         first: atan2(y, x),
         second: atan2(y2, x2),
     }

@@ -9,8 +9,9 @@ use lib.ListN.{length}
 use borrow.Author.Tests.{ltb-true, ltb-false, leb-true, leb-false, eqb-true, eqb-false, eq-eqb, ne_eqb, le-leb, lt-leb, lt-ltb, le-ltb, not-false}
 use Rattle.instant.specs.Calendar.{in_calendar}
 use Rattle.award.specs.declared.Offer.{Offer}
-use Rattle.award.specs.declared.Answer.{Answer}
-use Rattle.award.specs.declared.Answer.TheVariants as answer
+use Rattle.std.specs.Prelude.{Err, Ok, Result}
+use Rattle.award.specs.declared.AwardRefusal.{AwardRefusal}
+use Rattle.award.specs.declared.AwardRefusal.TheVariants as answer
 use Rattle.award.specs.Plan.{first, among, offer_count, offer_at, entry_at, named, most_cents, second_micros, sound, unsound, missing, names, repeated, before, clash, clash_with, clashing, sum_below, bid_at, total_of, refusing, most, answer_of}
 use Rattle.award.specs.Acceptable.{Sound, Clash, Acceptable, Holds}
 use Rattle.award.specs.Claims.{Told, AcceptedExactly, ClashIsSymmetric, OneSlotAtOnce, SumsFit}
@@ -104,24 +105,24 @@ no_instant w p q e c t h g =
 -- ── accepted exactly ──
 
 -- a pass that does not refuse has found no fault
-passed : (f : ℕ → Bool) (n : ℕ) (r : ℕ → Answer) (next : Answer) → ((k : ℕ) → r k ≡ answer.Accepted → ⊥) → refusing f n r next ≡ answer.Accepted
-    → (first f n ≡ n) × (next ≡ answer.Accepted)
+passed : (f : ℕ → Bool) (n : ℕ) (r : ℕ → AwardRefusal) (next : Result (Unit {0}) AwardRefusal) → ((k : ℕ) → ◌≡◌ {A = Result (Unit {0}) AwardRefusal} (Err (r k)) (Ok tt) → ⊥) → refusing f n r next ≡ Ok tt
+    → (first f n ≡ n) × (next ≡ Ok tt)
 passed f n r next h e = by (among f n) refl e
   where
-    by : (t : Bool) → among f n ≡ t → cond t (r (first f n)) next ≡ answer.Accepted → (first f n ≡ n) × (next ≡ answer.Accepted)
+    by : (t : Bool) → among f n ≡ t → cond t (Err (r (first f n))) next ≡ Ok tt → (first f n ≡ n) × (next ≡ Ok tt)
     by true q d = absurd (h _ d)
     by false q d = (not_among f n q, d)
 
-few_by : (t u : Bool) (next : Answer) → cond (t || u) answer.TooMany next ≡ answer.Accepted → (t ≡ false) × ((u ≡ false) × (next ≡ answer.Accepted))
+few_by : (t u : Bool) (next : Result (Unit {0}) AwardRefusal) → cond (t || u) (Err answer.TooMany) next ≡ Ok tt → (t ≡ false) × ((u ≡ false) × (next ≡ Ok tt))
 few_by true u next e = let z : ◌≡◌ {A = ℕ} 0 1 = cc in absurd (omega arith)
 few_by false true next e = let z : ◌≡◌ {A = ℕ} 0 1 = cc in absurd (omega arith)
 few_by false false next e = (refl, (refl, e))
 
-total_by : (t : Bool) → cond t answer.Accepted answer.WrongTotal ≡ answer.Accepted → t ≡ true
+total_by : (t : Bool) → cond {A = Result (Unit {0}) AwardRefusal} t (Ok tt) (Err answer.WrongTotal) ≡ Ok tt → t ≡ true
 total_by true e = refl
 total_by false e = cc
 
-only : (offers entries : List ℕ) (total turnaround : ℕ) → answer_of offers entries total turnaround ≡ answer.Accepted → Acceptable offers entries total turnaround
+only : (offers entries : List ℕ) (total turnaround : ℕ) → answer_of offers entries total turnaround ≡ Ok tt → Acceptable offers entries total turnaround
 unfolding answer_of repeated clashing
 only offers entries total w e =
     let n = offer_count offers in
@@ -143,7 +144,7 @@ only offers entries total w e =
       right_total = eqb-true (total_of offers entries) total (total_by (eqb (total_of offers entries) total) c.1);
     }
 
-always : (offers entries : List ℕ) (total turnaround : ℕ) → Acceptable offers entries total turnaround → answer_of offers entries total turnaround ≡ answer.Accepted
+always : (offers entries : List ℕ) (total turnaround : ℕ) → Acceptable offers entries total turnaround → answer_of offers entries total turnaround ≡ Ok tt
 unfolding repeated clashing
 always offers entries total w a =
     let n = offer_count offers in

@@ -1,8 +1,8 @@
 -- What follows from the definitions for every plan: accepted exactly if acceptable, what each refusal says, that it does not matter which of two offers
 -- is named first, that an accepted plan gives no antenna two slots at once, and that no sum of bids overflows. Proved in proofs/Theorems.antt and proofs/Refused.antt.
-use Rattle.std.specs.Prelude.{ℕ, ◌<◌, ◌≤◌, ◌≡◌, Bool, true, false, List, length}
+use Rattle.std.specs.Prelude.{ℕ, ◌<◌, ◌≤◌, ◌≡◌, Bool, true, false, List, length, Err, Ok}
 use Rattle.award.specs.declared.Offer.{Offer}
-use Rattle.award.specs.declared.Answer.TheVariants as answer
+use Rattle.award.specs.declared.AwardRefusal.TheVariants as answer
 use Rattle.award.specs.Plan.{most, offer_count, offer_at, entry_at, named, sound, unsound, missing, repeated, clash, clashing, sum_below, bid_at, total_of, answer_of}
 use Rattle.award.specs.Acceptable.{Sound, Clash, Acceptable, Holds}
 
@@ -15,8 +15,8 @@ pub record Told : Type 0 where
 
 -- accepted exactly when acceptable
 pub record AcceptedExactly : Type 0 where
-  pub only : (offers entries : List ℕ) (total turnaround : ℕ) → answer_of offers entries total turnaround ≡ answer.Accepted → Acceptable offers entries total turnaround
-  pub always : (offers entries : List ℕ) (total turnaround : ℕ) → Acceptable offers entries total turnaround → answer_of offers entries total turnaround ≡ answer.Accepted
+  pub only : (offers entries : List ℕ) (total turnaround : ℕ) → answer_of offers entries total turnaround ≡ Ok tt → Acceptable offers entries total turnaround
+  pub always : (offers entries : List ℕ) (total turnaround : ℕ) → Acceptable offers entries total turnaround → answer_of offers entries total turnaround ≡ Ok tt
 
 -- clashing is the same whichever of the two is named first
 abbrev pub ClashIsSymmetric : Type 0
@@ -25,7 +25,7 @@ ClashIsSymmetric = (turnaround : ℕ) (p q : Offer) → clash turnaround p q ≡
 -- two entries of an accepted plan have no instant in common on one antenna
 abbrev pub OneSlotAtOnce : Type 0
 OneSlotAtOnce =
-    (offers entries : List ℕ) (total turnaround : ℕ) → answer_of offers entries total turnaround ≡ answer.Accepted
+    (offers entries : List ℕ) (total turnaround : ℕ) → answer_of offers entries total turnaround ≡ Ok tt
     → (i j : ℕ) → i < length entries → j < length entries → (i ≡ j → ⊥)
     → (named offers entries i).antenna ≡ (named offers entries j).antenna
     → (t : ℕ) → Holds (named offers entries i) t → Holds (named offers entries j) t → ⊥
@@ -66,16 +66,16 @@ module _ (offers entries : List ℕ) where
 
 -- what each refusal says: its own fault, at its first place, and none of those that are looked for before
 pub record Refusals (offers entries : List ℕ) (total turnaround : ℕ) : Type 0 where
-  pub is_18 : answer_of offers entries total turnaround ≡ answer.TooMany → Few offers entries → ⊥
-  pub is_27 : (k : ℕ) → answer_of offers entries total turnaround ≡ answer.Unsound k
+  pub is_18 : answer_of offers entries total turnaround ≡ Err answer.TooMany → Few offers entries → ⊥
+  pub is_27 : (k : ℕ) → answer_of offers entries total turnaround ≡ Err (answer.Unsound k)
       → Few offers entries × FirstFault (λ j. unsound (offer_at offers j)) (offer_count offers) k
-  pub is_28 : (i : ℕ) → answer_of offers entries total turnaround ≡ answer.NoSuchOffer i
+  pub is_28 : (i : ℕ) → answer_of offers entries total turnaround ≡ Err (answer.NoSuchOffer i)
       → Few offers entries × AllSound offers entries × FirstFault (λ j. missing (offer_count offers) entries j) (length entries) i
-  pub is_29 : (i : ℕ) → answer_of offers entries total turnaround ≡ answer.NamedTwice i
+  pub is_29 : (i : ℕ) → answer_of offers entries total turnaround ≡ Err (answer.NamedTwice i)
       → Few offers entries × AllSound offers entries × AllThere offers entries × FirstFault (λ j. repeated entries j) (length entries) i
-  pub is_30 : (i : ℕ) → answer_of offers entries total turnaround ≡ answer.Clash i
+  pub is_30 : (i : ℕ) → answer_of offers entries total turnaround ≡ Err (answer.Clash i)
       → Few offers entries × AllSound offers entries × AllThere offers entries × NoneTwice offers entries
       × FirstFault (λ j. clashing offers entries turnaround j) (length entries) i
-  pub is_31 : answer_of offers entries total turnaround ≡ answer.WrongTotal
+  pub is_31 : answer_of offers entries total turnaround ≡ Err answer.WrongTotal
       → Few offers entries × AllSound offers entries × AllThere offers entries × NoneTwice offers entries × NoClash offers entries turnaround
       × (total_of offers entries ≡ total → ⊥)

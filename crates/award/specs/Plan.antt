@@ -1,10 +1,10 @@
 -- Document 02, wish 11: what an offer and an entry are, the faults that a plan may have, and the answer. Definitions only.
 -- specs/Acceptable.antt says in plain statements when a plan is acceptable; `accepted_exactly` of proofs/Theorems.antt, that it is accepted then and only then.
-use Rattle.std.specs.Prelude.{ℕ, zero, suc, ◌+◌, ◌*◌, ◌/◌, List, [], ◌∷◌, Bool, not, cond, ◌&&◌, ◌||◌, leb, ltb, eqb, length, get_or}
+use Rattle.std.specs.Prelude.{◌≡◌, ◌<◌, ℕ, zero, suc, ◌+◌, ◌*◌, ◌/◌, List, [], ◌∷◌, Bool, not, cond, ◌&&◌, ◌||◌, leb, ltb, eqb, length, get_or, Err, Ok, Result}
 use Rattle.instant.specs.Calendar.{in_calendar}
 use Rattle.award.specs.declared.Offer.{Offer}
-use Rattle.award.specs.declared.Answer.{Answer}
-use Rattle.award.specs.declared.Answer.TheVariants as answer
+use Rattle.award.specs.declared.AwardRefusal.{AwardRefusal}
+use Rattle.award.specs.declared.AwardRefusal.TheVariants as answer
 
 -- ── the paper's numbers ──
 
@@ -47,6 +47,10 @@ named offers entries i = offer_at offers (entry_at entries i)
 unfoldable pub first : (ℕ → Bool) → ℕ → ℕ
 first fault zero = zero
 first fault (suc n) = cond (ltb (first fault n) n) (first fault n) (cond (fault n) n (suc n))
+
+-- of what a test may answer about the numbers below n: r is the first fault, whatever the faults are that it tells
+abbrev pub FirstThat : (ℕ → Bool → Type 0) → ℕ → ℕ → Type 0
+FirstThat says n r = (fault : ℕ → Bool) → ((k : ℕ) (b : Bool) → k < n → says k b → b ≡ fault k) → r ≡ first fault n
 
 -- whether a number below n has a fault
 abbrev pub among : (ℕ → Bool) → ℕ → Bool
@@ -103,37 +107,37 @@ total_of offers entries = sum_below (λ i. bid_at offers entries i) (length entr
 -- ── the answer ──
 
 -- a refusal at the first of n numbers that has a fault; where none has, what comes next
-abbrev pub refusing : (ℕ → Bool) → ℕ → (ℕ → Answer) → Answer → Answer
-refusing fault n refusal next = cond (among fault n) (refusal (first fault n)) next
+abbrev pub refusing : (ℕ → Bool) → ℕ → (ℕ → AwardRefusal) → Result (Unit {0}) AwardRefusal → Result (Unit {0}) AwardRefusal
+refusing fault n refusal next = cond (among fault n) (Err (refusal (first fault n))) next
 
 -- "each over all before the next"
-unfoldable pub answer_of : List ℕ → List ℕ → ℕ → ℕ → Answer
+unfoldable pub answer_of : List ℕ → List ℕ → ℕ → ℕ → Result (Unit {0}) AwardRefusal
 answer_of offers entries total turnaround =
     let n = offer_count offers in
     let m = length entries in
-    cond (ltb most n || ltb most m) answer.TooMany
+    cond (ltb most n || ltb most m) (Err answer.TooMany)
     (refusing (λ k. unsound (offer_at offers k)) n answer.Unsound
     (refusing (λ i. missing n entries i) m answer.NoSuchOffer
     (refusing (λ i. repeated entries i) m answer.NamedTwice
     (refusing (λ i. clashing offers entries turnaround i) m answer.Clash
-    (cond (eqb (total_of offers entries) total) answer.Accepted answer.WrongTotal)))))
+    (cond (eqb (total_of offers entries) total) (Ok tt) (Err answer.WrongTotal))))))
 
 -- document 02's number of each answer, 0 where the plan is accepted
-unfoldable pub number : Answer → ℕ
-number answer.Accepted = 0
-number answer.TooMany = 18
-number (answer.Unsound k) = 27
-number (answer.NoSuchOffer i) = 28
-number (answer.NamedTwice i) = 29
-number (answer.Clash i) = 30
-number answer.WrongTotal = 31
+unfoldable pub number : Result (Unit {0}) AwardRefusal → ℕ
+number (Ok tt) = 0
+number (Err answer.TooMany) = 18
+number (Err (answer.Unsound k)) = 27
+number (Err (answer.NoSuchOffer i)) = 28
+number (Err (answer.NamedTwice i)) = 29
+number (Err (answer.Clash i)) = 30
+number (Err answer.WrongTotal) = 31
 
 -- what comes back with it: the offer, or the entry
-unfoldable pub values : Answer → List ℕ
-values answer.Accepted = []
-values answer.TooMany = []
-values (answer.Unsound k) = k ∷ []
-values (answer.NoSuchOffer i) = i ∷ []
-values (answer.NamedTwice i) = i ∷ []
-values (answer.Clash i) = i ∷ []
-values answer.WrongTotal = []
+unfoldable pub values : Result (Unit {0}) AwardRefusal → List ℕ
+values (Ok tt) = []
+values (Err answer.TooMany) = []
+values (Err (answer.Unsound k)) = k ∷ []
+values (Err (answer.NoSuchOffer i)) = i ∷ []
+values (Err (answer.NamedTwice i)) = i ∷ []
+values (Err (answer.Clash i)) = i ∷ []
+values (Err answer.WrongTotal) = []

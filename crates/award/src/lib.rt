@@ -2,11 +2,11 @@
 // that nobody trusts, and accepted only if it breaks no rule.
 #![tactic(auto)]
 
-ghost use Rattle.std.specs.Prelude.{◌≡◌, ◌+◌, ◌*◌, ◌/◌, ◌≤◌, ◌<◌, length};
+ghost use Rattle.std.specs.Prelude.{◌≡◌, ℕ, ◌+◌, ◌*◌, ◌/◌, ◌≤◌, ◌<◌, length};
 ghost use Rattle.instant.specs.Calendar.{in_calendar};
-ghost use Rattle.award.specs.Plan.{first, offer_at, unsound, before, clash, missing, names, repeated, clash_with, clashing, sum_below, bid_at, answer_of};
+ghost use Rattle.award.specs.Plan.{first, FirstThat, offer_at, unsound, before, clash, missing, names, repeated, clash_with, clashing, sum_below, bid_at, answer_of};
 
-use instant::{Dated, Instant, date_of};
+use instant::{Instant, date_of};
 
 // An offer for a slot: the antenna, the instants at which the slot starts and ends, in microseconds
 // from 1957 January 1, and the bid in whole cents.
@@ -18,11 +18,9 @@ pub struct Offer {
     pub bid: u64,
 }
 
-// What checking a plan gives: accepted, or one of document 02's refusals, with the offer (27) or the
-// entry (28 to 30) at fault, counted from 0.
+// Why a plan is refused.
 #[derive(Clone, Copy)]
-pub enum Answer {
-    Accepted,
+pub enum AwardRefusal {
     // 18: more than 256 offers or entries.
     TooMany,
     // 27: an offer outside the calendar, whose end is not after its start or whose bid is too large.
@@ -41,8 +39,8 @@ fn in_calendar(t: u64) -> bool
     ensures { result ≡ in_calendar t }
 {
     match date_of(Instant(t)) {
-        Dated::On(_) => true,
-        Dated::Outside => false,
+        Some(_) => true,
+        None => false,
     }
 }
 
@@ -74,31 +72,29 @@ fn is_unsound(offer: Offer) -> bool
     offer.bid > 1000000000
 }
 
+// The first number below n that has a fault, or n.
+fn first_of<F: Fn(usize) -> bool>(n: usize, fault: F) -> usize
+    requires { (k : ℕ) → k < n → F.pre fault k }
+    ensures { FirstThat (F.post fault) n result }
+{
+    for k in 0..n {
+        if fault(k) {
+            return k;
+        }
+    }
+    n
+}
+
 fn first_unsound(offers: &[u64]) -> usize
     ensures { result ≡ first (λ k. unsound (offer_at offers.now k)) (length offers.now / 4) }
 {
-    let n = offers.len() / 4;
-    let mut k = 0;
-    while k < n {
-        if is_unsound(offer_at(offers, k)) {
-            return k;
-        }
-        k += 1;
-    }
-    n
+    first_of(offers.len() / 4, |k| is_unsound(offer_at(offers, k)))
 }
 
 fn first_missing(n: u64, entries: &[u64]) -> usize
     ensures { result ≡ first (λ i. missing n entries.now i) (length entries.now) }
 {
-    let mut i = 0;
-    while i < entries.len() {
-        if entries[i] >= n {
-            return i;
-        }
-        i += 1;
-    }
-    i
+    first_of(entries.len(), |i| entries[i] >= n)
 }
 
 // The first of the first n entries that names offer x, or n.
@@ -106,27 +102,13 @@ fn first_naming(entries: &[u64], x: u64, n: usize) -> usize
     requires { n ≤ length entries.now }
     ensures { result ≡ first (λ j. names entries.now x j) n }
 {
-    let mut j = 0;
-    while j < n {
-        if entries[j] == x {
-            return j;
-        }
-        j += 1;
-    }
-    j
+    first_of(n, |j| entries[j] == x)
 }
 
 fn first_repeated(entries: &[u64]) -> usize
     ensures { result ≡ first (λ i. repeated entries.now i) (length entries.now) }
 {
-    let mut i = 0;
-    while i < entries.len() {
-        if first_naming(entries, entries[i], i) < i {
-            return i;
-        }
-        i += 1;
-    }
-    i
+    first_of(entries.len(), |i| first_naming(entries, entries[i], i) < i)
 }
 
 // Whether a slot ends at least the turnaround before another starts. The gap in whole seconds is
@@ -160,29 +142,20 @@ fn clash_before(offers: &[u64], entries: &[u64], i: usize, turnaround: u64) -> u
 {
     let x = entries[i] as usize;
     let p = offer_at(offers, x);
-    let mut j: usize = 0;
-    while j < i {
+    first_of(i, |j| {
         let y = entries[j] as usize;
-        if is_clash(p, offer_at(offers, y), turnaround) {
-            return j;
-        }
-        j += 1;
-    }
-    j
+        is_clash(p, offer_at(offers, y), turnaround)
+    })
 }
 
 fn first_clash(offers: &[u64], entries: &[u64], turnaround: u64) -> usize
     requires { first (λ k. missing (length offers.now / 4) entries.now k) (length entries.now) ≡ length entries.now }
     ensures { result ≡ first (λ i. clashing offers.now entries.now turnaround i) (length entries.now) }
 {
-    let mut i = 0;
-    while i < entries.len() {
-        if clash_before(offers, entries, i, turnaround) < i {
-            return i;
-        }
-        i += 1;
-    }
-    i
+    first_of(
+        entries.len(),
+        |i| clash_before(offers, entries, i, turnaround) < i,
+    )
 }
 
 // The sum of the bids of the offers named. At most 256 sound ones: it fits.
@@ -193,12 +166,9 @@ fn total_of(offers: &[u64], entries: &[u64]) -> u64
     ensures { result ≡ sum_below (λ i. bid_at offers.now entries.now i) (length entries.now) }
 {
     let mut sum: u64 = 0;
-    let mut i = 0;
-    while i < entries.len() {
-        let x = entries[i] as usize;
-        let o = offer_at(offers, x);
+    for &x in entries {
+        let o = offer_at(offers, x as usize);
         sum += o.bid;
-        i += 1;
     }
     sum
 }
@@ -206,35 +176,40 @@ fn total_of(offers: &[u64], entries: &[u64]) -> u64
 // Checks a plan: offers of four numbers each (antenna, start, end, bid; up to three numbers left over
 // are no offer), entries that name offers by their number, the claimed total in cents, and the
 // turnaround in seconds.
-pub fn check_plan(offers: &[u64], entries: &[u64], total: u64, turnaround: u64) -> Answer
+pub fn check_plan(
+    offers: &[u64],
+    entries: &[u64],
+    total: u64,
+    turnaround: u64,
+) -> Result<(), AwardRefusal>
     ensures { result ≡ answer_of offers.now entries.now total turnaround }
 {
     let n = offers.len() / 4;
     let m = entries.len();
     if n > 256 {
-        return Answer::TooMany;
+        return Err(AwardRefusal::TooMany);
     }
     if m > 256 {
-        return Answer::TooMany;
+        return Err(AwardRefusal::TooMany);
     }
     let k = first_unsound(offers);
     if k < n {
-        return Answer::Unsound(k);
+        return Err(AwardRefusal::Unsound(k));
     }
     let i = first_missing(n as u64, entries);
     if i < m {
-        return Answer::NoSuchOffer(i);
+        return Err(AwardRefusal::NoSuchOffer(i));
     }
     let i = first_repeated(entries);
     if i < m {
-        return Answer::NamedTwice(i);
+        return Err(AwardRefusal::NamedTwice(i));
     }
     let i = first_clash(offers, entries, turnaround);
     if i < m {
-        return Answer::Clash(i);
+        return Err(AwardRefusal::Clash(i));
     }
     if total_of(offers, entries) != total {
-        return Answer::WrongTotal;
+        return Err(AwardRefusal::WrongTotal);
     }
-    Answer::Accepted
+    Ok(())
 }

@@ -7,7 +7,7 @@ use lib.ListN.{length, take, drop, length-drop}
 use lib.Seq.{sets, drop-length, take_all}
 use borrow.Author.Tests.{le-ltb}
 use borrow.Rule.Slice.PartMut.{mid_of, put_mid, Post-is}
-use Rattle.number_list.specs.declared.Numbers.{Numbers}
+use Rattle.std.specs.Prelude.{Option}
 use Rattle.number_list.specs.Numbers.{numbers_of, count_of}
 use Rattle.award_text.specs.declared.Draft.{Draft}
 use Rattle.award_text.specs.declared.Label.{Label}
@@ -22,7 +22,7 @@ back : (l p : List ℕ) (n : ℕ) → n ≤ length l → put_mid n (length l - n
 back l p n h =
     ap (λ z. take n l ++ (p ++ z)) (Post-is n (length l) l h ∙ drop-length l) ∙ ap (λ z. take n l ++ z) (append-nil p)
 
-module _ (d : Draft) (line row part : List ℕ) (label : Label) (q : Numbers) (r : Draft) where
+module _ (d : Draft) (line row part : List ℕ) (label : Label) (q : Option ℕ) (r : Draft) where
   abbrev at : ℕ
   at = d.at
 

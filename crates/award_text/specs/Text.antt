@@ -1,18 +1,17 @@
 -- The text of an award plan, line by line: `offer` with four numbers for each offer, then `entries`, then `total` and `turnaround` with one number each.
 -- The numbers go into one row, in the order of the text. Definitions only.
-use Rattle.std.specs.Prelude.{ℕ, ◌+◌, ◌-◌, List, ◌++◌, Bool, true, false, cond, ◌&&◌, leb, ltb, eqb, length, take, drop, get_or}
+use Rattle.std.specs.Prelude.{ℕ, ◌+◌, ◌-◌, List, ◌++◌, Bool, true, false, cond, ◌&&◌, leb, ltb, eqb, length, take, drop, get_or, Err, None, Option, Some, Ok, Result}
 use Rattle.std.proofs.lemmas.List.Edits.{sets}
 use Rattle.text.specs.Output.{bytes}
 use Rattle.request_line.specs.Request.{begun}
-use Rattle.number_list.specs.declared.Numbers.{Numbers}
-use Rattle.number_list.specs.declared.Numbers.TheVariants as numbers
+use Rattle.award.specs.declared.AwardRefusal.TheVariants as answer
 use Rattle.number_list.specs.Numbers.{numbers_of, count_of}
-use Rattle.award.specs.declared.Answer.TheVariants as answer
 use Rattle.award.specs.Plan.{answer_of}
 use Rattle.award_text.specs.declared.Draft.{Draft}
 use Rattle.award_text.specs.declared.Label.{Label}
-use Rattle.award_text.specs.declared.Verdict.{Verdict}
-use Rattle.award_text.specs.declared.Verdict.TheVariants as verdict
+use Rattle.award.specs.declared.AwardRefusal.{AwardRefusal}
+use Rattle.award_text.specs.declared.TextRefusal.{TextRefusal}
+use Rattle.award_text.specs.declared.TextRefusal.TheVariants as text_refusal
 
 -- before any line
 abbrev pub started : Draft
@@ -62,9 +61,9 @@ unfoldable pub placed : Draft → ℕ → ℕ → ℕ → Draft
 placed d kind n room =
     cond (in_place d.stage kind n) (cond (leb n (room - d.at)) (advanced d kind (d.at + n)) (left_out d kind)) (unread d)
 
-abbrev pub after : Draft → ℕ → Numbers → ℕ → Draft
-after d kind (numbers.Read n) room = placed d kind n room
-after d kind numbers.Malformed room = unread d
+abbrev pub after : Draft → ℕ → Option ℕ → ℕ → Draft
+after d kind (Some n) room = placed d kind n room
+after d kind None room = unread d
 
 -- the draft after a line, with room for so many numbers in the row
 unfoldable pub taken : Draft → List ℕ → ℕ → Draft
@@ -82,17 +81,17 @@ row_taken d line row =
 abbrev pub most_numbers : ℕ
 most_numbers = 1282
 
-unfoldable pub judged : Draft → List ℕ → Verdict
+unfoldable pub judged : Draft → List ℕ → Result (Result (Unit {0}) AwardRefusal) TextRefusal
 judged d row =
     let n = d.offers in
     let m = d.entries in
-    cond (ltb m n) verdict.Unread
-    (cond (leb (length row) (m + 1)) verdict.Unread
-    (verdict.Judged (answer_of (take n row) (take (m - n) (drop n row)) (get_or row m 0) (get_or row (m + 1) 0))))
+    cond (ltb m n) (Err text_refusal.Unread)
+    (cond (leb (length row) (m + 1)) (Err text_refusal.Unread)
+    (Ok (answer_of (take n row) (take (m - n) (drop n row)) (get_or row m 0) (get_or row (m + 1) 0))))
 
 -- Every line taken, the turnaround the last. More numbers than the row has room for are more offers or entries than a plan may have: 18
-unfoldable pub verdict_of : Draft → List ℕ → Verdict
+unfoldable pub verdict_of : Draft → List ℕ → Result (Result (Unit {0}) AwardRefusal) TextRefusal
 verdict_of d row =
-    cond (ltb (length row) most_numbers) verdict.RoomTooShort
-    (cond d.faulty verdict.Unread
-    (cond (eqb d.stage 3) (cond d.long (verdict.Judged answer.TooMany) (judged d row)) verdict.Unread))
+    cond (ltb (length row) most_numbers) (Err text_refusal.RoomTooShort)
+    (cond d.faulty (Err text_refusal.Unread)
+    (cond (eqb d.stage 3) (cond d.long (Ok (Err answer.TooMany)) (judged d row)) (Err text_refusal.Unread)))

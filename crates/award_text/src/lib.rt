@@ -8,8 +8,8 @@ ghost use Rattle.text.specs.Output.{Put};
 ghost use Rattle.award_text.specs.Text.{started, unread, left_out, advanced, in_place, placed, after, label_of, taken, row_taken, judged, verdict_of};
 ghost use Rattle.award_text.specs.Print.{refusal_text, refusal_at_text, answer_text};
 
-use award::{Answer, check_plan};
-use number_list::{Numbers, read_numbers};
+use award::{AwardRefusal, check_plan};
+use number_list::read_numbers;
 use request_line::begins;
 use text::{put_byte, put_bytes, put_decimal};
 
@@ -28,9 +28,9 @@ pub struct Draft {
     pub long: bool,
 }
 
+// Why a text has no plan that can be judged.
 #[derive(Clone, Copy)]
-pub enum Verdict {
-    Judged(Answer),
+pub enum TextRefusal {
     // A line was bad, or the text ends before the turnaround.
     Unread,
     // The row has no room for 256 offers, 256 entries, a total and a turnaround.
@@ -148,13 +148,13 @@ fn place(d: Draft, kind: u64, n: usize, room: usize) -> Draft
     bad(d)
 }
 
-fn after_line(d: Draft, kind: u64, numbers: Numbers, room: usize) -> Draft
+fn after_line(d: Draft, kind: u64, numbers: Option<usize>, room: usize) -> Draft
     requires { d.at ≤ room }
     ensures { result ≡ after d kind numbers room }
 {
     match numbers {
-        Numbers::Read(n) => place(d, kind, n, room),
-        Numbers::Malformed => bad(d),
+        Some(n) => place(d, kind, n, room),
+        None => bad(d),
     }
 }
 
@@ -192,39 +192,39 @@ pub fn take_line(d: Draft, line: &[u8], row: &mut [u64]) -> Draft
 }
 
 // A whole plan judged.
-fn judge(d: Draft, row: &[u64]) -> Verdict
+fn judge(d: Draft, row: &[u64]) -> Result<Result<(), AwardRefusal>, TextRefusal>
     ensures { result ≡ judged d row.now }
 {
     let n = d.offers;
     let m = d.entries;
     if n > m {
-        return Verdict::Unread;
+        return Err(TextRefusal::Unread);
     }
     if m >= row.len() {
-        return Verdict::Unread;
+        return Err(TextRefusal::Unread);
     }
     if m + 1 >= row.len() {
-        return Verdict::Unread;
+        return Err(TextRefusal::Unread);
     }
     let answer = check_plan(&row[0..n], &row[n..m], row[m], row[m + 1]);
-    Verdict::Judged(answer)
+    Ok(answer)
 }
 
 // What a text that ends here comes to.
-pub fn finish(d: Draft, row: &[u64]) -> Verdict
+pub fn finish(d: Draft, row: &[u64]) -> Result<Result<(), AwardRefusal>, TextRefusal>
     ensures { result ≡ verdict_of d row.now }
 {
     if row.len() < 1282 {
-        return Verdict::RoomTooShort;
+        return Err(TextRefusal::RoomTooShort);
     }
     if d.faulty {
-        return Verdict::Unread;
+        return Err(TextRefusal::Unread);
     }
     if d.stage != 3 {
-        return Verdict::Unread;
+        return Err(TextRefusal::Unread);
     }
     if d.long {
-        return Verdict::Judged(Answer::TooMany);
+        return Ok(Err(AwardRefusal::TooMany));
     }
     judge(d, row)
 }
@@ -248,16 +248,18 @@ fn put_refusal_at(out: &mut [u8], at: usize, number: u64, place: usize) -> usize
 }
 
 // `accepted`, or `refused` with the number and the place.
-pub fn put_answer(out: &mut [u8], at: usize, answer: Answer) -> usize
+pub fn put_answer(out: &mut [u8], at: usize, answer: Result<(), AwardRefusal>) -> usize
     ensures { Put out.old at (answer_text answer) out.new result }
 {
     match answer {
-        Answer::Accepted => put_bytes(out, at, b"accepted\n"),
-        Answer::TooMany => put_refusal(out, at, 18),
-        Answer::Unsound(k) => put_refusal_at(out, at, 27, k),
-        Answer::NoSuchOffer(i) => put_refusal_at(out, at, 28, i),
-        Answer::NamedTwice(i) => put_refusal_at(out, at, 29, i),
-        Answer::Clash(i) => put_refusal_at(out, at, 30, i),
-        Answer::WrongTotal => put_refusal(out, at, 31),
+        Ok(()) => put_bytes(out, at, b"accepted\n"),
+        Err(why) => match why {
+            AwardRefusal::TooMany => put_refusal(out, at, 18),
+            AwardRefusal::Unsound(k) => put_refusal_at(out, at, 27, k),
+            AwardRefusal::NoSuchOffer(i) => put_refusal_at(out, at, 28, i),
+            AwardRefusal::NamedTwice(i) => put_refusal_at(out, at, 29, i),
+            AwardRefusal::Clash(i) => put_refusal_at(out, at, 30, i),
+            AwardRefusal::WrongTotal => put_refusal(out, at, 31),
+        },
     }
 }

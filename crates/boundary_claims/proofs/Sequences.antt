@@ -16,8 +16,9 @@ use Rattle.resonance.specs.Time.{whole_strides}
 use Rattle.opening.specs.declared.opening.Satellite.{Satellite}
 use Rattle.opening.specs.declared.opening.Refusal as O
 use Rattle.opening.specs.declared.opening.Refusal.TheVariants as opening
-use Rattle.opening.specs.declared.opening.PairOpening.{PairOpening}
-use Rattle.opening.specs.declared.opening.PairOpening.TheVariants as pair
+use Rattle.std.specs.Prelude.{Err, Ok, Result}
+use Rattle.opening.specs.declared.opening.PairRefusal.{PairRefusal}
+use Rattle.opening.specs.declared.opening.PairRefusal.TheVariants as pair
 use Rattle.opening.specs.Opening.{number, open_pair_of}
 use Rattle.opening.proofs.Made.{made_of}
 use Rattle.sgp4.specs.declared.Row.{Row}
@@ -342,11 +343,11 @@ unfolding answer
 long_enough true e = absurd (omega arith)
 long_enough false e = refl
 
-opened : (o : PairOpening) (ns : List Float) (ms : List ℕ) → open_answer o (length ns) (length ms) ≡ 0 → (s : Satellite) × (o ≡ pair.Opened s) × Holds (open_numbers o ns ms) (open_marks o ns ms) s
+opened : (o : Result Satellite PairRefusal) (ns : List Float) (ms : List ℕ) → open_answer o (length ns) (length ms) ≡ 0 → (s : Satellite) × (o ≡ Ok s) × Holds (open_numbers o ns ms) (open_marks o ns ms) s
 unfolding open_answer open_numbers open_marks store_refusal
-opened (pair.Opened s) ns ms e = (s, refl, stored_holds s ns ms (long_enough (too_short (length ns) (length ms)) e))
-opened (pair.Unread why) ns ms e = absurd (refusal_not why e)
-opened (pair.Refused why) ns ms e = absurd (number_not why e)
+opened (Ok s) ns ms e = (s, refl, stored_holds s ns ms (long_enough (too_short (length ns) (length ms)) e))
+opened (Err (pair.Unread why)) ns ms e = absurd (refusal_not why e)
+opened (Err (pair.Refused why)) ns ms e = absurd (number_not why e)
 
 pub sequences : Sequences
 sequences line1 line2 m cs last e d =

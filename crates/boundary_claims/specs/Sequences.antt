@@ -1,8 +1,7 @@
 -- Whole sequences of calls on lent memory: demand 3 (specs/Demand3 of `sequences`) of what the calls answer and leave. Definitions only.
 -- The theorem is `sequences` of proofs/Sequences.
-use Rattle.std.specs.Prelude.{ℕ, ◌≡◌, cond, List, [], ◌∷◌, ◌++◌, map, ltb, ℤ, length, Float}
+use Rattle.std.specs.Prelude.{ℕ, ◌≡◌, cond, List, [], ◌∷◌, ◌++◌, map, ltb, ℤ, length, Float, Ok}
 use Rattle.opening.specs.declared.opening.Satellite.{Satellite}
-use Rattle.opening.specs.declared.opening.PairOpening.TheVariants as pair
 use Rattle.opening.specs.Opening.{open_pair_of}
 use Rattle.resonance.specs.declared.place.Side.{Side}
 use Rattle.resonance.specs.Time.{whole_strides}
@@ -106,7 +105,7 @@ alone_strides s cs = map (λ c. D.sum (map (D.strides_alone s) (D.ranged (call_t
 --   kept      of the satellite in memory nothing but the saved position has changed
 pub record Sequence (line1 line2 : List ℕ) (cs : List Call) (last : Memory) : Type 0 where
   pub satellite : Satellite
-  pub opens : open_pair_of line1 line2 ≡ pair.Opened satellite
+  pub opens : open_pair_of line1 line2 ≡ Ok satellite
   pub told : Told satellite D.none cs
   pub outward : (d : Side) → D.Outward d 0 (D.ranged (times_of (D.epoch satellite) cs)) → D.sum (told_strides satellite D.none cs) ≡ whole_strides (integrator_of satellite.model) (D.farthest (D.ranged (times_of (D.epoch satellite) cs)))
   pub no_more : D.NoMore (told_strides satellite D.none cs) (alone_strides satellite cs)

@@ -1,9 +1,8 @@
 -- The way of a record through lent memory, there and back. Claims: proved in proofs/Trips.
-use Rattle.std.specs.Prelude.{ℕ, ◌≤◌, ◌≡◌, List, ◌++◌, ℤ, length, take, drop}
+use Rattle.std.specs.Prelude.{ℕ, ◌≤◌, ◌≡◌, List, ◌++◌, ℤ, length, take, drop, Ok}
 use Rattle.tle.specs.Read.{read_of}
 use Rattle.tle.specs.declared.Line.TheVariants.{One, Two}
 use Rattle.tle.specs.declared.Record.{Record}
-use Rattle.tle.specs.declared.Reading.TheVariants as reading
 use Rattle.tle_writer.specs.Lines.{line_of}
 use Rattle.record_numbers.specs.Numbers.{given_of}
 use Rattle.answers.specs.Answer.{answer}
@@ -15,12 +14,12 @@ pub record WritesBack (r : Record) (fields : List ℤ) (out : List ℕ) : Type 0
   pub line1 : write_out (given_of fields) 1 out ≡ line_of One r ++ drop 69 out
   pub answer2 : write_answer (given_of fields) 2 out ≡ answer 0 0 0 69
   pub line2 : write_out (given_of fields) 2 out ≡ line_of Two r ++ drop 69 out
-  pub reads : read_of (line_of One r) (line_of Two r) ≡ reading.Record r
+  pub reads : read_of (line_of One r) (line_of Two r) ≡ Ok r
 
 -- what `saddlekerf_record` stores of accepted lines is written back
 abbrev pub RecordsReturn : Type 0
 RecordsReturn =
-    (line1 line2 : List ℕ) (r : Record) (fields : List ℤ) (out : List ℕ) → read_of line1 line2 ≡ reading.Record r → 22 ≤ length fields → 69 ≤ length out
+    (line1 line2 : List ℕ) (r : Record) (fields : List ℤ) (out : List ℕ) → read_of line1 line2 ≡ Ok r → 22 ≤ length fields → 69 ≤ length out
     → WritesBack r (record_fields (read_of line1 line2) fields) out
 
 -- the 22 numbers of which `saddlekerf_write` wrote a line are what `saddlekerf_record` stores of the two lines written

@@ -8,8 +8,8 @@ use borrow.Author.Tests.{ltb-true, ltb-false, le-ltb, eqb-true}
 use lib.Dec.{eqb, ltb}
 use lib.IntN.{ℤ, pos, negsuc, sub_ℕ, ◌-ℤ◌, -ℤ-+ℤ_cancel}
 use Rattle.instant.specs.Calendar.{year_in_range, unit_micros, date_of}
-use Rattle.instant.specs.declared.Dated.{Dated}
-use Rattle.instant.specs.declared.Dated.TheVariants as dated
+use Rattle.std.specs.Prelude.{Option, Some}
+use Rattle.instant.specs.declared.Date.{Date}
 use Rattle.instant.proofs.Theorems.{epochs_apart}
 use Rattle.instant.proofs.Calendar.{year_within}
 use Rattle.tle.specs.declared.Class.{Class}
@@ -90,7 +90,7 @@ module _ (r : Record) (F : Facts r) where
   pub year_in_lem : year_in_range r.year ≡ true
   year_in_lem = year_within r.year F.year_low F.year_high
 
-  dated_back : date_of (instant_of r) ≡ dated.On (record { year = r.year; day = r.day / 100000000; micros = r.day % 100000000 * unit_micros })
+  dated_back : date_of (instant_of r) ≡ Some (record { year = r.year; day = r.day / 100000000; micros = r.day % 100000000 * unit_micros })
   unfolding instant_of
   dated_back = epochs_apart r.year r.day year_in_lem F.day
 
@@ -174,9 +174,9 @@ module _ (a b : Record) (A : Facts a) (B : Facts b) where
       patch_each (eqb (instant_of a) (instant_of b)) (Epochs (sub_ℕ (instant_of b) (instant_of a))) es (before 2) (before 3)
       (λ h. let e = ap date_of (eqb-true (instant_of a) (instant_of b) h) in
       on_date a.year a.day
-      (sym (year_back a A 0) ∙ ap (λ (t : Dated). year_in t 0) e ∙ year_back b B 0) (sym (day_back a A 0) ∙ ap (λ (t : Dated). day_in t 0) e ∙ day_back b B 0))
+      (sym (year_back a A 0) ∙ ap (λ (t : Option Date). year_in t 0) e ∙ year_back b B 0) (sym (day_back a A 0) ∙ ap (λ (t : Option Date). day_in t 0) e ∙ day_back b B 0))
       (let e = ap date_of (moved_back (instant_of a) (instant_of b)) in
-      on_date _ _ (ap (λ (t : Dated). year_in t a.year) e ∙ year_back b B a.year) (ap (λ (t : Dated). day_in t a.day) e ∙ day_back b B a.day))
+      on_date _ _ (ap (λ (t : Option Date). year_in t a.year) e ∙ year_back b B a.year) (ap (λ (t : Option Date). day_in t a.day) e ∙ day_back b B a.day))
 
   abbrev with_ndot : ℤ → Record
   with_ndot z = mixed 3 a.number 0 0 z 0

@@ -1,9 +1,8 @@
 -- Document 02, wish 7, over two records of one number: "each field that differs, in the printing program's order", and how a difference is applied.
-use Rattle.std.specs.Prelude.{ℕ, ◌+◌, ◌*◌, ◌/◌, Bool, true, false, cond, ◌&&◌, List, [], ◌∷◌, ◌++◌, eqb, ℤ, pos, negsuc, nat_abs, ◌+ℤ◌, ◌-ℤ◌}
+use Rattle.std.specs.Prelude.{ℕ, ◌+◌, ◌*◌, ◌/◌, Bool, true, false, cond, ◌&&◌, List, [], ◌∷◌, ◌++◌, eqb, ℤ, pos, negsuc, nat_abs, ◌+ℤ◌, ◌-ℤ◌, None, Option, Some}
 use Rattle.std.proofs.Math.IntN.{sub_ℕ}
 use Rattle.instant.specs.Calendar.{epoch_micros, date_of}
-use Rattle.instant.specs.declared.Dated.{Dated}
-use Rattle.instant.specs.declared.Dated.TheVariants as dated
+use Rattle.instant.specs.declared.Date.{Date}
 use Rattle.tle.specs.declared.Class.{Class}
 use Rattle.tle.specs.declared.Designator.{Designator}
 use Rattle.tle.specs.declared.Designator.TheVariants.{Blank, Piece}
@@ -113,13 +112,13 @@ designator_by (Bstars x y) g = g
 designator_by (Counts k d) g = g
 
 -- year and day of an instant, as a record keeps them
-abbrev pub year_in : Dated → ℕ → ℕ
-year_in (dated.On t) year = t.year
-year_in dated.Outside year = year
+abbrev pub year_in : Option Date → ℕ → ℕ
+year_in (Some t) year = t.year
+year_in None year = year
 
-abbrev pub day_in : Dated → ℕ → ℕ
-day_in (dated.On t) day = t.day * 100000000 + t.micros / 864
-day_in dated.Outside day = day
+abbrev pub day_in : Option Date → ℕ → ℕ
+day_in (Some t) day = t.day * 100000000 + t.micros / 864
+day_in None day = day
 
 abbrev pub year_by : Entry → ℕ → ℕ → ℕ
 year_by (Classes x y) year day = year

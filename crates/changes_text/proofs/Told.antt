@@ -21,7 +21,7 @@ use Rattle.listing.specs.Listing.{then, designator_text, scaled_text}
 use Rattle.roster.specs.Records.{Rising}
 use Rattle.roster.specs.Roster.{pair_bytes, bytes_of, same, place_of}
 use Rattle.roster.proofs.Decode.{roster_sound}
-use Rattle.roster.specs.declared.places.Place.TheVariants as place
+use Rattle.std.specs.Prelude.{Some}
 use Rattle.tle_writer.proofs.Facts.{both}
 use Rattle.roster.proofs.Pairs.{length_pair, place_back}
 use Rattle.changes.specs.Entry.{Count, Ephemeris, Element, Inclination, Node, Eccentricity, Perigee, Anomaly, Motion, Revolution, Entry, Classes, Designators, Epochs, Ndots, Nddots, Bstars, Counts}
@@ -163,7 +163,7 @@ pair_told : (r q : Record) (s t : List ℕ) → legal r ≡ true → legal q ≡
 pair_told r q s t h g e =
     let a : pair_bytes r ≡ pair_bytes q = sym (take_at (pair_bytes r) (10 ∷ s) 138 (length_pair r)) ∙ ap (take 138) e ∙ take_at (pair_bytes q) (10 ∷ t) 138 (length_pair q) in
     let b : 10 ∷ s ≡ 10 ∷ t = sym (drop_at (pair_bytes r) (10 ∷ s) 138 (length_pair r)) ∙ ap (drop 138) e ∙ drop_at (pair_bytes q) (10 ∷ t) 138 (length_pair q) in
-    let p : place.Pair r ≡ place.Pair q = sym (place_back r h) ∙ ap place_of a ∙ place_back q g in
+    let p : Some r ≡ Some q = sym (place_back r h) ∙ ap place_of a ∙ place_back q g in
     let m : r ≡ q = cc in
     let k : s ≡ t = cc in
     (m, k)

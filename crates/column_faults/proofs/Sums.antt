@@ -1,34 +1,27 @@
--- One turn of each sum, and its end; the two together; no byte past a line's end.
-use Prim.Native.Nat.{ℕ, zero, suc, ◌<◌, ◌≤◌, ◌+◌}
+-- The two sums as the library has them; the two together; no byte past a line's end.
+use Prim.Native.Nat.{ℕ, zero, suc, ◌≤◌, ◌+◌}
 use mathlib.Core.Path.{◌≡◌, refl}
 use mathlib.Core.List.{List, [], ◌∷◌}
 use mathlib.Core.Bool.{Bool, true, false, cond}
-use native.Mathlib.Numerals.{add-one}
 use native.Mathlib.Omega.{arith}
 use lib.Dec.{eqb}
-use lib.ListN.{length, drop, get_or, drop_of_length-le}
-use lib.Seq.{drop-cons}
+use lib.ListN.{length, get_or}
+use Rattle.std.specs.List.{sum_by}
+use Rattle.std.proofs.lemmas.Grind.{common_steps}
 use borrow.Author.Tests.{eqb-true}
 use Rattle.columns.specs.Sum.{digit_of, sum}
 use Rattle.column_faults.specs.Sums.{digit_sum, minus, minuses}
 use Rattle.column_faults.specs.Claims.{SumsAdd}
 
-module _ (s : List ℕ) (i : ℕ) where
-  pub digits_more : i < length s → digit_sum (drop i s) ≡ digit_of (get_or s i 0) + digit_sum (drop (i + 1) s)
-  unfolding digit_sum
-  digits_more h = rw (add-one, drop-cons s i 0)
+pub digits_sum : (s : List ℕ) → digit_sum s ≡ sum_by digit_of s
+unfolding digit_sum
+digits_sum [] = refl
+digits_sum (b ∷ s) = grind (arith, common_steps, digits_sum s)
 
-  pub digits_done : length s ≤ i → digit_sum (drop i s) ≡ 0
-  unfolding digit_sum
-  digits_done h = rw (drop_of_length-le s h)
-
-  pub minuses_more : i < length s → minuses (drop i s) ≡ minus (get_or s i 0) + minuses (drop (i + 1) s)
-  unfolding minuses
-  minuses_more h = rw (add-one, drop-cons s i 0)
-
-  pub minuses_done : length s ≤ i → minuses (drop i s) ≡ 0
-  unfolding minuses
-  minuses_done h = rw (drop_of_length-le s h)
+pub minuses_sum : (s : List ℕ) → minuses s ≡ sum_by minus s
+unfolding minuses
+minuses_sum [] = refl
+minuses_sum (b ∷ s) = grind (arith, common_steps, minuses_sum s)
 
 -- a minus sign is no digit
 one_by : (b : ℕ) (t : Bool) → eqb b 45 ≡ t → digit_of b + cond t 1 0 ≡ cond t 1 (digit_of b)

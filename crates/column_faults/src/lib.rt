@@ -53,15 +53,6 @@ fn byte_at(line: &[u8], i: usize) -> u8
     0
 }
 
-fn one_less(n: usize) -> usize
-    ensures { result ≡ n - 1 }
-{
-    if n == 0 {
-        return 0;
-    }
-    n - 1
-}
-
 // What is said of a line whose last byte is a carriage return.
 fn put_end(out: &mut [u8], at: usize, last: u8) -> usize
     ensures { Put out.old at (end_text last) out.new result }
@@ -91,7 +82,7 @@ pub fn put_length_fault(out: &mut [u8], at: usize, which: u8, line: &[u8]) -> us
     ensures { Put out.old at (length_text which line.now) out.new result }
 {
     let from = at_most(line.len(), 69);
-    let last = byte_at(line, one_less(line.len()));
+    let last = byte_at(line, line.len().saturating_sub(1));
     let p = put_size(out, at, which, line.len());
     let p = put_end(out, p, last);
     let p = put_bytes(out, p, b".\n");
@@ -122,7 +113,7 @@ pub fn put_column_fault(
 ) -> usize
     ensures { Put out.old at (column_text number which layout.now line.now column) out.new result }
 {
-    let i = one_less(column);
+    let i = column.saturating_sub(1);
     let stands = byte_at(line, i);
     let class = byte_at(layout, i);
     let p = put_place(out, at, number, which, column);
@@ -137,13 +128,7 @@ fn digit_sum(s: &[u8]) -> u64
     requires { length s.now ≤ 68 }
     ensures { result ≡ digit_sum s.now }
 {
-    let mut t = 0;
-    let mut i = 0;
-    while i < s.len() {
-        t += digit(s[i]);
-        i += 1;
-    }
-    t
+    s.iter().map(|&b| digit(b)).sum()
 }
 
 fn one_if_minus(b: u8) -> u64
@@ -159,13 +144,7 @@ fn minus_count(s: &[u8]) -> u64
     requires { length s.now ≤ 68 }
     ensures { result ≡ minuses s.now }
 {
-    let mut t = 0;
-    let mut i = 0;
-    while i < s.len() {
-        t += one_if_minus(s[i]);
-        i += 1;
-    }
-    t
+    s.iter().map(|&b| one_if_minus(b)).sum()
 }
 
 // The checksum that is due of the columns before it, and the two sums that it is made of.

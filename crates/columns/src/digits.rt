@@ -34,10 +34,8 @@ fn short_sum(s: &[u8]) -> u16
     ensures { result ≡ sum s.now }
 {
     let mut t: u16 = 0;
-    let mut i = 0;
-    while i < s.len() {
-        t += weight(s[i]) as u16;
-        i += 1;
+    for b in s {
+        t += weight(*b) as u16;
     }
     t
 }
@@ -47,10 +45,8 @@ fn long_checksum(s: &[u8]) -> u64
     ensures { result ≡ sum s.now % 10 }
 {
     let mut t: u64 = 0;
-    let mut i = 0;
-    while i < s.len() {
-        t = (t + weight(s[i])) % 10;
-        i += 1;
+    for b in s {
+        t = (t + weight(*b)) % 10;
     }
     t
 }

@@ -48,10 +48,8 @@ fn keeps_layout(layout: &[u8], line: &[u8]) -> bool
     ensures { result ≡ true → agreed layout.now true line.now ≡ length line.now }
 {
     let mut keeps = begins_as(layout, line);
-    let mut i = 3;
-    while i < line.len() {
+    for i in 3..line.len() {
         keeps = keeps & fits_plain(layout[i], line[i - 1] == b' ', line[i]);
-        i += 1;
     }
     keeps
 }
@@ -61,19 +59,16 @@ fn count_agreeing(layout: &[u8], line: &[u8]) -> usize
     ensures { (result ≡ agreed layout.now true line.now) × (result ≤ length line.now) }
 {
     let mut after = true;
-    let mut i = 0;
-    while i < line.len() {
+    for (i, b) in line.iter().enumerate() {
         if layout.len() <= i {
             return i;
         }
-        let b = line[i];
-        if !fits_at(layout[i], after, b) {
+        if !fits_at(layout[i], after, *b) {
             return i;
         }
-        after = b == b' ';
-        i += 1;
+        after = *b == b' ';
     }
-    i
+    line.len()
 }
 
 // The same, counted column by column only where one does not agree.

@@ -18,18 +18,19 @@ use Rattle.changes_text.proofs.Lengths.{listings_fit}
 use Rattle.compare.specs.Compare.{text_of, compared_of, compared_over}
 use Rattle.compare.specs.Walk.{records_in, Holding}
 use Rattle.compare.specs.declared.Which.TheVariants as which
-use Rattle.compare.specs.declared.Compared.{Compared}
-use Rattle.compare.specs.declared.Compared.TheVariants as compared
+use Rattle.std.specs.Prelude.{Err, Ok, Result}
+use Rattle.compare.specs.declared.CompareRefusal.{CompareRefusal}
+use Rattle.compare.specs.declared.CompareRefusal.TheVariants as compared
 use Rattle.compare.proofs.Places.{sound, few}
 
-abbrev pub Compares : Option (List Record) → Option (List Record) → List ℕ → Compared → List ℕ → Type 0
+abbrev pub Compares : Option (List Record) → Option (List Record) → List ℕ → Result ℕ CompareRefusal → List ℕ → Type 0
 Compares o p out r after = (r ≡ compared_of o p (length out)) × (after ≡ compared_over o p out)
 
-pub no_first : (o p : Option (List Record)) (out : List ℕ) → is_none o ≡ true → Compares o p out (compared.NoRoster which.First) out
+pub no_first : (o p : Option (List Record)) (out : List ℕ) → is_none o ≡ true → Compares o p out (Err (compared.NoRoster which.First)) out
 no_first none p out h = (refl, refl)
 no_first (some xs) p out h = let z : ◌≡◌ {A = ℕ} 0 1 = cc in absurd (omega arith)
 
-pub no_second : (o p : Option (List Record)) (out : List ℕ) → is_none o ≡ false → is_none p ≡ true → Compares o p out (compared.NoRoster which.Second) out
+pub no_second : (o p : Option (List Record)) (out : List ℕ) → is_none o ≡ false → is_none p ≡ true → Compares o p out (Err (compared.NoRoster which.Second)) out
 no_second none p out h g = let z : ◌≡◌ {A = ℕ} 0 1 = cc in absurd (omega arith)
 no_second (some xs) none out h g = (refl, refl)
 no_second (some xs) (some bs) out h g = let z : ◌≡◌ {A = ℕ} 0 1 = cc in absurd (omega arith)
@@ -52,18 +53,18 @@ module _ (a b : List ℕ) (A : Holding a) (B : Holding b) where
   pub size : {o o' : List ℕ} {n : ℕ} → Put o 0 text o' n → n ≡ length text
   size p = measured p brief
 
-  pub no_room : (out : List ℕ) → ltb (length out) (length text) ≡ true → Compares (roster_of a) (roster_of b) out compared.RoomTooShort out
+  pub no_room : (out : List ℕ) → ltb (length out) (length text) ≡ true → Compares (roster_of a) (roster_of b) out (Err compared.RoomTooShort) out
   no_room out h =
       let l = ltb-true (length out) (length text) h in
       rw (A.records, B.records) (rw (lt-leb (length text) (length out) l) refl, too_short text out l)
 
   pub written : (out after : List ℕ) (m : ℕ) → ltb (length out) (length text) ≡ false → Put out 0 text after m
-      → Compares (roster_of a) (roster_of b) out (compared.Written m) after
+      → Compares (roster_of a) (roster_of b) out (Ok m) after
   written out after m h p =
       let l : length text ≤ length out = ltb-false (length out) (length text) h in
-      rw (A.records, B.records) (rw (le-leb (length text) (length out) l) (ap compared.Written (measured p brief)), has_room p brief l)
+      rw (A.records, B.records) (rw (le-leb (length text) (length out) l) (ap Ok (measured p brief)), has_room p brief l)
 
 -- two rosters and their rows, where each is found with its row
-pub with_rows : (a b row1 row2 out after : List ℕ) (r : Compared) → is_none (roster_with a row1) ≡ false → is_none (roster_with b row2) ≡ false
+pub with_rows : (a b row1 row2 out after : List ℕ) (r : Result ℕ CompareRefusal) → is_none (roster_with a row1) ≡ false → is_none (roster_with b row2) ≡ false
     → Compares (roster_of a) (roster_of b) out r after → Compares (roster_with a row1) (roster_with b row2) out r after
 with_rows a b row1 row2 out after r h g k = rw (with_row a row1 h, with_row b row2 g) k

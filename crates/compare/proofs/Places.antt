@@ -11,8 +11,7 @@ use Rattle.tle.specs.Legal.{legal}
 use Rattle.tle.specs.Read.{read_of}
 use Rattle.tle.specs.declared.Record.{Record}
 use Rattle.tle.specs.declared.Refusal.{Refusal}
-use Rattle.tle.specs.declared.Reading.{Reading}
-use Rattle.tle.specs.declared.Reading.TheVariants as reading
+use Rattle.std.specs.Prelude.{Err, None, Ok, Option as Optional, Result, Some}
 use Rattle.roster.specs.Packed.{packed}
 use Rattle.roster.specs.Records.{Rising, end, next}
 use Rattle.roster.specs.Row.{roster_with}
@@ -23,8 +22,6 @@ use Rattle.roster.proofs.Decode.{places, Decoded, roster_sound}
 use Rattle.roster.proofs.Rows.{with_row}
 use Rattle.roster.proofs.Packing.{length_packed, one_more}
 use Rattle.compare.specs.Walk.{records_in, Holding, front, StandsAt}
-use Rattle.compare.specs.declared.Place.{Place}
-use Rattle.compare.specs.declared.Place.TheVariants as place
 
 zeros_drop : (m n : ℕ) → drop {A = ℕ} m (replicate (m + n) 0) ≡ replicate n 0
 zeros_drop zero n = let e : 0 + n ≡ n = omega arith in rw e
@@ -45,9 +42,9 @@ places_drop (suc i) (suc k) (r ∷ rs) h g =
     ∙ ap (drop (i * 138)) (ap (drop 138) (one_more pair_bytes 138 length_pair k r rs) ∙ drop_at (pair_bytes r) (places k rs) 138 (length_pair r))
     ∙ places_drop i k rs (omega arith) (omega arith) ∙ ap (λ (m : ℕ). places m (drop i rs)) (sym e)
 
-abbrev Legal : Place → Type 0
-Legal (place.Pair r) = legal r ≡ true
-Legal place.Empty = Unit {0}
+abbrev Legal : Optional Record → Type 0
+Legal (Some r) = legal r ≡ true
+Legal None = Unit {0}
 
 legal_front : {low : ℕ} {rs : List Record} → Rising low rs → (i : ℕ) → Legal (front (drop i rs))
 legal_front end zero = tt
@@ -64,7 +61,7 @@ module _ (b : List ℕ) (H : Holding b) where
   pub few : length (records_in b) ≤ 64
   few = sound.room
 
-  pub past_end : (i : ℕ) → 64 ≤ i → place.Empty ≡ front (drop i (records_in b))
+  pub past_end : (i : ℕ) → 64 ≤ i → None ≡ front (drop i (records_in b))
   past_end i h = rw (drop_of_length-le (records_in b) {i = i} (omega (arith, few)))
 
   module _ (i : ℕ) (some_left : i < 64) where
@@ -85,13 +82,13 @@ module _ (b : List ℕ) (H : Holding b) where
     pair : (q : Record) (qs : List Record) → drop i (records_in b) ≡ q ∷ qs → drop (i * 138) b ≡ pair_bytes q ++ places (64 - (i + 1)) qs
     pair q qs e = rest ∙ rw (e, left) (one_more pair_bytes 138 length_pair (64 - (i + 1)) q qs)
 
-    empty_by : (rs : List Record) → drop i (records_in b) ≡ rs → all_zero (drop (i * 138) b) ≡ true → place.Empty ≡ front rs
+    empty_by : (rs : List Record) → drop i (records_in b) ≡ rs → all_zero (drop (i * 138) b) ≡ true → None ≡ front rs
     empty_by [] e h = refl
     empty_by (q ∷ qs) e h =
         let f : all_zero (drop (i * 138) b) ≡ false = ap all_zero (pair q qs e) ∙ pair_nonzero q (places (64 - (i + 1)) qs) in
         let z : ◌≡◌ {A = ℕ} 0 1 = cc in absurd (omega arith)
 
-    pub is_empty : (x : Bool) → x ≡ all_zero (take (length b - i * 138) (drop (i * 138) b)) → x ≡ true → place.Empty ≡ front (drop i (records_in b))
+    pub is_empty : (x : Bool) → x ≡ all_zero (take (length b - i * 138) (drop (i * 138) b)) → x ≡ true → None ≡ front (drop i (records_in b))
     is_empty x e h = empty_by (drop i (records_in b)) refl (sym (ap all_zero whole) ∙ sym e ∙ h)
 
     -- the two lines, as the code takes them
@@ -103,24 +100,24 @@ module _ (b : List ℕ) (H : Holding b) where
         rw (e, f, drop-drop 69 (i * 138) b)
 
     read_by : (rs : List Record) → drop i (records_in b) ≡ rs → Legal (front rs) → all_zero (drop (i * 138) b) ≡ false
-        → (g : Reading) → g ≡ read_of (take 69 (drop (i * 138) b)) (take 69 (drop 69 (drop (i * 138) b)))
-        → ((r : Record) → g ≡ reading.Record r → place.Pair r ≡ front rs) × ((why : Refusal) → g ≡ reading.Refused why → place.Empty ≡ front rs)
+        → (g : Result Record Refusal) → g ≡ read_of (take 69 (drop (i * 138) b)) (take 69 (drop 69 (drop (i * 138) b)))
+        → ((r : Record) → g ≡ Ok r → Some r ≡ front rs) × ((why : Refusal) → g ≡ Err why → None ≡ front rs)
     read_by [] e l s g f = let t = zeros e in let z : ◌≡◌ {A = ℕ} 0 1 = cc in absurd (omega arith)
     read_by (q ∷ qs) e l s g f =
-        let k : g ≡ reading.Record q =
+        let k : g ≡ Ok q =
         f ∙ ap (λ (t : List ℕ). read_of (take 69 t) (take 69 (drop 69 t))) (pair q qs e) ∙ read_front q (places (64 - (i + 1)) qs) l in
-        (λ r h. (let m : r ≡ q = cc in ap place.Pair m), λ why h. (let z : ◌≡◌ {A = ℕ} 0 1 = cc in absurd (omega arith)))
+        (λ r h. (let m : r ≡ q = cc in ap Some m), λ why h. (let z : ◌≡◌ {A = ℕ} 0 1 = cc in absurd (omega arith)))
 
-    module _ (x : Bool) (tested : x ≡ all_zero (take (length b - i * 138) (drop (i * 138) b))) (h : x ≡ false) (g : Reading)
+    module _ (x : Bool) (tested : x ≡ all_zero (take (length b - i * 138) (drop (i * 138) b))) (h : x ≡ false) (g : Result Record Refusal)
         (got : g ≡ read_of (take (i * 138 + 69 - i * 138) (drop (i * 138) b)) (take (i * 138 + 138 - (i * 138 + 69)) (drop (i * 138 + 69) b))) where
-      read_here : ((r : Record) → g ≡ reading.Record r → place.Pair r ≡ front (drop i (records_in b)))
-          × ((why : Refusal) → g ≡ reading.Refused why → place.Empty ≡ front (drop i (records_in b)))
+      read_here : ((r : Record) → g ≡ Ok r → Some r ≡ front (drop i (records_in b)))
+          × ((why : Refusal) → g ≡ Err why → None ≡ front (drop i (records_in b)))
       read_here = read_by (drop i (records_in b)) refl (legal_front sound.rising i) (sym (ap all_zero whole) ∙ sym tested ∙ h) g (got ∙ lines)
 
-      pub is_pair : (r : Record) → g ≡ reading.Record r → place.Pair r ≡ front (drop i (records_in b))
+      pub is_pair : (r : Record) → g ≡ Ok r → Some r ≡ front (drop i (records_in b))
       is_pair r e = read_here.0 r e
 
-      pub is_refused_lem : (why : Refusal) → g ≡ reading.Refused why → place.Empty ≡ front (drop i (records_in b))
+      pub is_refused_lem : (why : Refusal) → g ≡ Err why → None ≡ front (drop i (records_in b))
       is_refused_lem why e = read_here.1 why e
 
   stands_inside : (i : ℕ) (q : Record) (qs : List Record) → drop i (records_in b) ≡ q ∷ qs → i < 64

@@ -21,8 +21,7 @@ use Rattle.changes.specs.Changes.{First, Second, fields, seconds, against, liste
 use Rattle.changes_text.specs.Text.{spelled}
 use Rattle.changes_text.proofs.Lengths.{spelled_append}
 use Rattle.compare.specs.Walk.{front, Stands, StandsAt, pairs_text, pairs_first, pairs_second, turn_text, first_passed, second_passed, Turned}
-use Rattle.compare.specs.declared.Place.{Place}
-use Rattle.compare.specs.declared.Place.TheVariants as place
+use Rattle.std.specs.Prelude.{None, Option, Some}
 use Rattle.compare.specs.declared.Turn.{Turn}
 
 abbrev Steps : List ℕ → ℕ → ℕ → List Record → List Record → Type 0
@@ -72,13 +71,13 @@ pub start : {out : List ℕ} {at : ℕ} (xs bs : List Record) → length out ≤
 start xs bs h g p q = record { done = []; put = pieces.none h g; text = refl; left = omega arith }
 
 module _ {out : List ℕ} {at : ℕ} (xs bs : List Record) {mid : List ℕ} {now i j k : ℕ} (G : Going out at xs bs mid now i j k) where
-  pub more : (x y : Place) (after : List ℕ) (t : Turn) → x ≡ front (drop i xs) → y ≡ front (drop j bs)
+  pub more : (x y : Option Record) (after : List ℕ) (t : Turn) → x ≡ front (drop i xs) → y ≡ front (drop j bs)
       → Turned mid now (turn_text x y) (first_passed x y) (second_passed x y) after t
       → (Going out at xs bs after t.next (i + t.first) (j + t.second) (k + 1)) × (t.first ≤ 1) × (t.second ≤ 1)
   more x y after t e f T =
-      let fx : t.first ≡ first_passed (front (drop i xs)) (front (drop j bs)) = T.first ∙ ap (λ (s : Place). first_passed s y) e ∙ ap (first_passed (front (drop i xs))) f in
-      let sx : t.second ≡ second_passed (front (drop i xs)) (front (drop j bs)) = T.second ∙ ap (λ (s : Place). second_passed s y) e ∙ ap (second_passed (front (drop i xs))) f in
-      let tx : turn_text x y ≡ turn_text (front (drop i xs)) (front (drop j bs)) = ap (λ (s : Place). turn_text s y) e ∙ ap (turn_text (front (drop i xs))) f in
+      let fx : t.first ≡ first_passed (front (drop i xs)) (front (drop j bs)) = T.first ∙ ap (λ (s : Option Record). first_passed s y) e ∙ ap (first_passed (front (drop i xs))) f in
+      let sx : t.second ≡ second_passed (front (drop i xs)) (front (drop j bs)) = T.second ∙ ap (λ (s : Option Record). second_passed s y) e ∙ ap (second_passed (front (drop i xs))) f in
+      let tx : turn_text x y ≡ turn_text (front (drop i xs)) (front (drop j bs)) = ap (λ (s : Option Record). turn_text s y) e ∙ ap (turn_text (front (drop i xs))) f in
       let di : drop t.first (drop i xs) ≡ drop (i + t.first) xs = drop-drop t.first i xs in
       let dj : drop t.second (drop j bs) ≡ drop (j + t.second) bs = drop-drop t.second j bs in
       let S = shrink (drop i xs) (drop j bs) (128 - k) G.left in
@@ -107,27 +106,27 @@ module _ {out : List ℕ} {at : ℕ} (xs bs : List Record) {mid : List ℕ} {now
       same (sym (append-nil G.done) ∙ ap (λ (s : List ℕ). G.done ++ s) (sym e) ∙ G.text) G.put
 
 -- what comes next of a roster, where a place that was not passed was not read again
-after_by : (t : Bool) (i passed : ℕ) (xs : List Record) (x y : Place) → eqb passed 0 ≡ t → x ≡ front (drop i xs)
+after_by : (t : Bool) (i passed : ℕ) (xs : List Record) (x y : Option Record) → eqb passed 0 ≡ t → x ≡ front (drop i xs)
     → y ≡ cond t x (front (drop (i + passed) xs)) → y ≡ front (drop (i + passed) xs)
 after_by true i passed xs x y e h f =
     let n : i + passed ≡ i = omega (arith, eqb-true passed 0 e) in
     f ∙ h ∙ ap (λ (m : ℕ). front (drop m xs)) (sym n)
 after_by false i passed xs x y e h f = f
 
-pub after_turn : (i passed : ℕ) (xs : List Record) (x y : Place) → x ≡ front (drop i xs)
+pub after_turn : (i passed : ℕ) (xs : List Record) (x y : Option Record) → x ≡ front (drop i xs)
     → y ≡ cond (eqb passed 0) x (front (drop (i + passed) xs)) → y ≡ front (drop (i + passed) xs)
 after_turn i passed xs x y h f = after_by (eqb passed 0) i passed xs x y refl h f
 
 -- ── what one turn is made of ──
 
-pub turned_at : {out : List ℕ} {at : ℕ} {after : List ℕ} {t : Turn} (x y u v : Place) → x ≡ u → y ≡ v
+pub turned_at : {out : List ℕ} {at : ℕ} {after : List ℕ} {t : Turn} (x y u v : Option Record) → x ≡ u → y ≡ v
     → Turned out at (turn_text u v) (first_passed u v) (second_passed u v) after t → Turned out at (turn_text x y) (first_passed x y) (second_passed x y) after t
 turned_at {out} {at} {after} {t} x y u v e f T =
-    subst (λ (s : Place). Turned out at (turn_text s y) (first_passed s y) (second_passed s y) after t) (sym e)
-    (subst (λ (s : Place). Turned out at (turn_text u s) (first_passed u s) (second_passed u s) after t) (sym f) T)
+    subst (λ (s : Option Record). Turned out at (turn_text s y) (first_passed s y) (second_passed s y) after t) (sym e)
+    (subst (λ (s : Option Record). Turned out at (turn_text u s) (first_passed u s) (second_passed u s) after t) (sym f) T)
 
-pub stands_at : (b : List ℕ) (i : ℕ) (x y : Place) → x ≡ y → StandsAt b i y → StandsAt b i x
-stands_at b i x y e l = subst (λ (s : Place). StandsAt b i s) (sym e) l
+pub stands_at : (b : List ℕ) (i : ℕ) (x y : Option Record) → x ≡ y → StandsAt b i y → StandsAt b i x
+stands_at b i x y e l = subst (λ (s : Option Record). StandsAt b i s) (sym e) l
 
 abbrev turn : ℕ → ℕ → ℕ → Turn
 turn n i j = record { next = n; first = i; second = j }
@@ -143,7 +142,7 @@ line_of word b i r S p = same (ap (λ (t : List ℕ). then word t ++ (10 ∷ [])
 abbrev Pairs : List ℕ → ℕ → List ℕ → Turn → Record → Record → Type 0
 Pairs out at after t a b = Turned out at (pairs_text a b) (pairs_first a b) (pairs_second a b) after t
 
-abbrev Turns : List ℕ → ℕ → List ℕ → Turn → Place → Place → Type 0
+abbrev Turns : List ℕ → ℕ → List ℕ → Turn → Option Record → Option Record → Type 0
 Turns out at after t x y = Turned out at (turn_text x y) (first_passed x y) (second_passed x y) after t
 
 module _ {out : List ℕ} {at : ℕ} {after : List ℕ} {n : ℕ} where
@@ -159,19 +158,19 @@ module _ {out : List ℕ} {at : ℕ} {after : List ℕ} {n : ℕ} where
   unfolding pairs_text pairs_first pairs_second
   in_both a b e l m q = let p = rw (l, m) at q in rw (le-ltb b.number a.number (omega arith), eq-eqb b.number a.number e) (record { put = p; first = refl; second = refl })
 
-  pub last_first : (a : Record) → Line out at after n (bytes "first") a → Turns out at after (turn n 1 0) (place.Pair a) place.Empty
+  pub last_first : (a : Record) → Line out at after n (bytes "first") a → Turns out at after (turn n 1 0) (Some a) None
   unfolding turn_text first_passed second_passed spelled
   last_first a p = record { put = p; first = refl; second = refl }
 
-  pub last_second : (b : Record) → Line out at after n (bytes "second") b → Turns out at after (turn n 0 1) place.Empty (place.Pair b)
+  pub last_second : (b : Record) → Line out at after n (bytes "second") b → Turns out at after (turn n 0 1) None (Some b)
   unfolding turn_text first_passed second_passed spelled
   last_second b p = record { put = p; first = refl; second = refl }
 
-pub two_left : {out : List ℕ} {at : ℕ} {after : List ℕ} {t : Turn} (a b : Record) → Pairs out at after t a b → Turns out at after t (place.Pair a) (place.Pair b)
+pub two_left : {out : List ℕ} {at : ℕ} {after : List ℕ} {t : Turn} (a b : Record) → Pairs out at after t a b → Turns out at after t (Some a) (Some b)
 unfolding turn_text first_passed second_passed
 two_left a b T = T
 
 pub no_turn : {out : List ℕ} {at : ℕ} → length out ≤ most → at ≤ most
-    → Turned out at (turn_text place.Empty place.Empty) (first_passed place.Empty place.Empty) (second_passed place.Empty place.Empty) out (turn at 0 0)
+    → Turned out at (turn_text None None) (first_passed None None) (second_passed None None) out (turn at 0 0)
 unfolding turn_text first_passed second_passed
 no_turn h g = record { put = pieces.none h g; first = refl; second = refl }

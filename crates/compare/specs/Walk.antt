@@ -1,5 +1,5 @@
 -- Two rosters gone through together, a line or the fields of one pair at a turn. Cited by the contracts inside the crate only.
-use Rattle.std.specs.Prelude.{ℕ, ◌*◌, ◌<◌, ◌≡◌, true, cond, List, [], ◌∷◌, eqb, ltb, length, take, drop}
+use Rattle.std.specs.Prelude.{ℕ, ◌*◌, ◌<◌, ◌≡◌, true, cond, List, [], ◌∷◌, eqb, ltb, length, take, drop, None, Option as Optional, Some}
 use Rattle.std.proofs.Math.Option.{Option, none, some}
 use Rattle.text.specs.Output.{Put}
 use Rattle.tle.specs.Legal.{legal}
@@ -8,8 +8,6 @@ use Rattle.roster.specs.Roster.{pair_bytes, roster_of}
 use Rattle.changes.specs.Entry.{differences}
 use Rattle.changes.specs.Changes.{First, Second, fields}
 use Rattle.changes_text.specs.Text.{spelled}
-use Rattle.compare.specs.declared.Place.{Place}
-use Rattle.compare.specs.declared.Place.TheVariants as place
 use Rattle.compare.specs.declared.Turn.{Turn}
 
 abbrev pub records_of : Option (List Record) → List Record
@@ -24,9 +22,9 @@ pub record Holding (b : List ℕ) : Type 0 where
   pub records : roster_of b ≡ some (records_in b)
   pub long : length b ≡ 8832
 
-abbrev pub front : List Record → Place
-front [] = place.Empty
-front (r ∷ rs) = place.Pair r
+abbrev pub front : List Record → Optional Record
+front [] = None
+front (r ∷ rs) = Some r
 
 -- place i of a buffer has this pair
 pub record Stands (b : List ℕ) (i : ℕ) (r : Record) : Type 0 where
@@ -35,9 +33,9 @@ pub record Stands (b : List ℕ) (i : ℕ) (r : Record) : Type 0 where
   pub long : length b ≡ 8832
   pub bytes : take 138 (drop (i * 138) b) ≡ pair_bytes r
 
-abbrev pub StandsAt : List ℕ → ℕ → Place → Type 0
-StandsAt b i (place.Pair r) = Stands b i r
-StandsAt b i place.Empty = Unit {0}
+abbrev pub StandsAt : List ℕ → ℕ → Optional Record → Type 0
+StandsAt b i (Some r) = Stands b i r
+StandsAt b i None = Unit {0}
 
 -- what a turn writes of the two pairs that come next, and how many of each roster it passes
 unfoldable pub pairs_text : Record → Record → List ℕ
@@ -52,22 +50,22 @@ unfoldable pub pairs_second : Record → Record → ℕ
 pairs_second a b = cond (ltb b.number a.number) 1 (cond (eqb b.number a.number) 1 0)
 
 -- the same where a roster may be at its end
-unfoldable pub turn_text : Place → Place → List ℕ
-turn_text (place.Pair a) (place.Pair b) = pairs_text a b
-turn_text (place.Pair a) place.Empty = spelled (First a ∷ [])
-turn_text place.Empty (place.Pair b) = spelled (Second b ∷ [])
-turn_text place.Empty place.Empty = []
+unfoldable pub turn_text : Optional Record → Optional Record → List ℕ
+turn_text (Some a) (Some b) = pairs_text a b
+turn_text (Some a) None = spelled (First a ∷ [])
+turn_text None (Some b) = spelled (Second b ∷ [])
+turn_text None None = []
 
-unfoldable pub first_passed : Place → Place → ℕ
-first_passed (place.Pair a) (place.Pair b) = pairs_first a b
-first_passed (place.Pair a) place.Empty = 1
-first_passed place.Empty y = 0
+unfoldable pub first_passed : Optional Record → Optional Record → ℕ
+first_passed (Some a) (Some b) = pairs_first a b
+first_passed (Some a) None = 1
+first_passed None y = 0
 
-unfoldable pub second_passed : Place → Place → ℕ
-second_passed (place.Pair a) (place.Pair b) = pairs_second a b
-second_passed (place.Pair a) place.Empty = 0
-second_passed place.Empty (place.Pair b) = 1
-second_passed place.Empty place.Empty = 0
+unfoldable pub second_passed : Optional Record → Optional Record → ℕ
+second_passed (Some a) (Some b) = pairs_second a b
+second_passed (Some a) None = 0
+second_passed None (Some b) = 1
+second_passed None None = 0
 
 pub record Turned (out : List ℕ) (at : ℕ) (text : List ℕ) (i j : ℕ) (after : List ℕ) (t : Turn) : Type 0 where
   pub put : Put out at text after t.next

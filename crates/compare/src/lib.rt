@@ -11,7 +11,7 @@ ghost use Rattle.compare.specs.Walk.{records_in, Holding, front, Stands, StandsA
 use field_lines::put_fields;
 use roster::{all_zero, is_no_roster};
 use text::{put_byte, put_bytes};
-use tle::{Form, Reading, Record, read_form, read_meaning};
+use tle::{Record, read_form, read_meaning};
 
 #[derive(Clone, Copy)]
 pub enum Which {
@@ -19,11 +19,9 @@ pub enum Which {
     Second,
 }
 
-// What comparing two rosters answers.
+// Why two rosters are not compared.
 #[derive(Clone, Copy)]
-pub enum Compared {
-    // How many bytes the listing has.
-    Written(usize),
+pub enum CompareRefusal {
     // 22: the buffer is no roster or has another length, or its row has another length or disagrees with
     // the pairs.
     NoRoster(Which),
@@ -31,24 +29,15 @@ pub enum Compared {
     RoomTooShort,
 }
 
-impl Compared {
-    // Document 02's number of the refusal, 0 where the listing was written.
-    pub fn number(self) -> u64
-        ensures { result ≡ compared_number self }
-    {
-        match self {
-            Compared::Written(_) => 0,
-            Compared::NoRoster(_) => 22,
-            Compared::RoomTooShort => 17,
-        }
+// Document 02's number of the refusal, 0 where the listing was written.
+pub fn compared_number(answer: Result<usize, CompareRefusal>) -> u64
+    ensures { result ≡ compared_number answer }
+{
+    match answer {
+        Ok(_) => 0,
+        Err(CompareRefusal::NoRoster(_)) => 22,
+        Err(CompareRefusal::RoomTooShort) => 17,
     }
-}
-
-// What a place of a roster holds.
-#[derive(Clone, Copy)]
-pub enum Place {
-    Pair(Record),
-    Empty,
 }
 
 // One turn: how far the text reaches, and how many pairs of each roster were passed.
@@ -59,31 +48,31 @@ pub struct Turn {
     pub second: usize,
 }
 
-fn place_at(b: &[u8], i: usize) -> Place
+fn place_at(b: &[u8], i: usize) -> Option<Record>
     requires { Holding b.now }
     ensures { result ≡ front (drop i (records_in b.now)) }
 {
     if 64 <= i {
-        return Place::Empty;
+        return None;
     }
     let at = i * 138;
     let half = at + 69;
     let end = at + 138;
     if all_zero(&b[at..]) {
-        return Place::Empty;
+        return None;
     }
     let form = read_form(&b[at..half], &b[half..end]);
-    let Form::Fields(fields) = form else {
-        return Place::Empty;
+    let Ok(fields) = form else {
+        return None;
     };
     match read_meaning(fields) {
-        Reading::Record(r) => Place::Pair(r),
-        Reading::Refused(_) => Place::Empty,
+        Ok(r) => Some(r),
+        Err(_) => None,
     }
 }
 
 // What comes next of a roster after a turn: a place that was not passed is not read again.
-fn place_after(b: &[u8], i: usize, passed: usize, place: Place) -> Place
+fn place_after(b: &[u8], i: usize, passed: usize, place: Option<Record>) -> Option<Record>
     requires { Holding b.now }
     ensures { result ≡ cond (eqb passed 0) place (front (drop i (records_in b.now))) }
 {
@@ -149,18 +138,18 @@ fn put_turn(
     at: usize,
     a: &[u8],
     i: usize,
-    x: Place,
+    x: Option<Record>,
     b: &[u8],
     j: usize,
-    y: Place,
+    y: Option<Record>,
 ) -> Turn
     requires { StandsAt a.now i x × StandsAt b.now j y }
     ensures { Turned out.old at (turn_text x y) (first_passed x y) (second_passed x y) out.new result }
 {
     match x {
-        Place::Pair(r) => match y {
-            Place::Pair(s) => put_pairs(out, at, a, i, r, b, j, s),
-            Place::Empty => {
+        Some(r) => match y {
+            Some(s) => put_pairs(out, at, a, i, r, b, j, s),
+            None => {
                 let next = put_place(out, at, b"first", a, i);
                 Turn {
                     next,
@@ -169,8 +158,8 @@ fn put_turn(
                 }
             }
         },
-        Place::Empty => match y {
-            Place::Pair(_) => {
+        None => match y {
+            Some(_) => {
                 let next = put_place(out, at, b"second", b, j);
                 Turn {
                     next,
@@ -178,7 +167,7 @@ fn put_turn(
                     second: 1,
                 }
             }
-            Place::Empty => Turn {
+            None => Turn {
                 next: at,
                 first: 0,
                 second: 0,
@@ -197,15 +186,13 @@ fn put_changes(a: &[u8], b: &[u8], out: &mut [u8]) -> usize
     let mut j = 0;
     let mut x = place_at(a, 0);
     let mut y = place_at(b, 0);
-    let mut k: usize = 0;
-    while k < 128 {
+    for _ in 0..128usize {
         let t = put_turn(out, next, a, i, x, b, j, y);
         next = t.next;
         i += t.first;
         j += t.second;
         x = place_after(a, i, t.first, x);
         y = place_after(b, j, t.second, y);
-        k += 1;
     }
     next
 }
@@ -226,18 +213,24 @@ fn lacks_room(a: &[u8], b: &[u8], room: usize) -> bool
 
 // What changed from the first roster to the second, each with its row: the listing at the front of the
 // room. A refusal leaves the room as it was.
-pub fn compare(first: &[u8], row1: &[u64], second: &[u8], row2: &[u64], out: &mut [u8]) -> Compared
+pub fn compare(
+    first: &[u8],
+    row1: &[u64],
+    second: &[u8],
+    row2: &[u64],
+    out: &mut [u8],
+) -> Result<usize, CompareRefusal>
     ensures { (result ≡ compared_of (roster_with first.now row1.now) (roster_with second.now row2.now) (length out.old)) × (out.new ≡ compared_over (roster_with first.now row1.now) (roster_with second.now row2.now) out.old) }
 {
     if is_no_roster(first, row1) {
-        return Compared::NoRoster(Which::First);
+        return Err(CompareRefusal::NoRoster(Which::First));
     }
     if is_no_roster(second, row2) {
-        return Compared::NoRoster(Which::Second);
+        return Err(CompareRefusal::NoRoster(Which::Second));
     }
     if lacks_room(first, second, out.len()) {
-        return Compared::RoomTooShort;
+        return Err(CompareRefusal::RoomTooShort);
     }
     let n = put_changes(first, second, out);
-    Compared::Written(n)
+    Ok(n)
 }

@@ -8,8 +8,8 @@ use lib.Dec.{eqb, leb}
 use lib.ListN.{length, length-append}
 use borrow.Author.Tests.{leb-true, leb-false, ltb-true}
 use Rattle.instant.specs.Calendar.{days_in, calendar_end, in_calendar, together, date_of}
-use Rattle.instant.specs.declared.Dated.{Dated}
-use Rattle.instant.specs.declared.Dated.TheVariants as dated
+use Rattle.std.specs.Prelude.{None, Option, Some}
+use Rattle.instant.specs.declared.Date.{Date}
 use Rattle.instant.proofs.Theorems.{Apart, apart_together}
 use Rattle.decimals.proofs.Spelled.{length_places}
 use Rattle.date_text.specs.declared.MonthDay.{MonthDay}
@@ -91,10 +91,10 @@ date_right year day p h =
 clock : (u : ℕ) → (u / 3600000000 * 3600 + u / 60000000 % 60 * 60 + u / 1000000 % 60) * 1000000 + u % 1000000 ≡ u
 clock u = omega arith
 
-civil_of : (t : ℕ) (d : Dated) → date_of t ≡ d → Apart t d → Civil t
+civil_of : (t : ℕ) (d : Option Date) → date_of t ≡ d → Apart t d → Civil t
 unfolding instant_text date_text day_text time_text together
-civil_of t dated.Outside e p = absurd p
-civil_of t (dated.On d) e p =
+civil_of t None e p = absurd p
+civil_of t (Some d) e p =
     let r = date_right d.year d.day p.day_from p.day_to in
     let u = d.micros in
     let c = clock u in

@@ -1,9 +1,8 @@
 -- An instant as text: `2026-11-17 12:00:00.000000`, its date with month and day of the month and its time of day. Definitions only.
-use Rattle.std.specs.Prelude.{ℕ, zero, suc, ◌+◌, ◌-◌, ◌/◌, ◌%◌, cond, ◌||◌, List, [], ◌∷◌, ◌++◌, leb, eqb}
+use Rattle.std.specs.Prelude.{ℕ, zero, suc, ◌+◌, ◌-◌, ◌/◌, ◌%◌, cond, ◌||◌, List, [], ◌∷◌, ◌++◌, leb, eqb, None, Option, Some}
 use Rattle.text.specs.Output.{bytes, places}
 use Rattle.instant.specs.Calendar.{days_in, date_of}
-use Rattle.instant.specs.declared.Dated.{Dated}
-use Rattle.instant.specs.declared.Dated.TheVariants as dated
+use Rattle.instant.specs.declared.Date.{Date}
 use Rattle.date_text.specs.declared.MonthDay.{MonthDay}
 
 -- the days of a month, 1 to 12; the other eleven leave February 28 days of a year of 365
@@ -34,9 +33,9 @@ time_text micros =
     ++ ((46 ∷ []) ++ places 10 6 (micros % 1000000))))))
 
 -- an instant outside the calendar has neither
-unfoldable pub date_text : Dated → List ℕ
-date_text (dated.On d) = day_text d.year (month_of d.year d.day) ++ ((32 ∷ []) ++ time_text d.micros)
-date_text dated.Outside = bytes "- -"
+unfoldable pub date_text : Option Date → List ℕ
+date_text (Some d) = day_text d.year (month_of d.year d.day) ++ ((32 ∷ []) ++ time_text d.micros)
+date_text None = bytes "- -"
 
 unfoldable pub instant_text : ℕ → List ℕ
 instant_text t = date_text (date_of t)

@@ -2,13 +2,12 @@
 // in UTC with microseconds. All instants of the calendar take 26 bytes.
 #![tactic(auto)]
 
-ghost use Rattle.std.specs.Prelude.{◌≡◌};
+ghost use Rattle.std.specs.Prelude.{◌≡◌, Some};
 ghost use Rattle.text.specs.Output.{Put};
 ghost use Rattle.date_text.specs.Date.{month_length, month_of, day_text, time_text, date_text, instant_text};
-ghost use Rattle.instant.specs.declared.Dated.TheVariants.{On};
 
 use decimals::put_last_places;
-use instant::{Date, Dated, Instant, date_of};
+use instant::{Date, Instant, date_of};
 use text::{put_byte, put_bytes};
 
 // A month and a day of it, both from 1.
@@ -37,19 +36,18 @@ fn month_length(year: u64, month: u64) -> u64
 pub fn month_of(year: u64, day: u64) -> MonthDay
     ensures { result ≡ month_of year day }
 {
-    let mut month = 1;
     let mut rest = day;
-    let mut after = 11u64;
-    while 0 < after {
+    for month in 1..12 {
         let size = month_length(year, month);
         if rest <= size {
             return MonthDay { month, day: rest };
         }
         rest -= size;
-        month += 1;
-        after -= 1;
     }
-    MonthDay { month, day: rest }
+    MonthDay {
+        month: 12,
+        day: rest,
+    }
 }
 
 fn put_day(out: &mut [u8], at: usize, year: u64, m: MonthDay) -> usize
@@ -75,7 +73,7 @@ fn put_time(out: &mut [u8], at: usize, micros: u64) -> usize
 }
 
 fn put_date(out: &mut [u8], at: usize, d: Date) -> usize
-    ensures { Put out.old at (date_text (On d)) out.new result }
+    ensures { Put out.old at (date_text (Some d)) out.new result }
 {
     let m = month_of(d.year, d.day);
     let p = put_day(out, at, d.year, m);
@@ -88,7 +86,7 @@ pub fn put_instant(out: &mut [u8], at: usize, t: Instant) -> usize
     ensures { Put out.old at (instant_text t.0) out.new result }
 {
     match date_of(t) {
-        Dated::On(d) => put_date(out, at, d),
-        Dated::Outside => put_bytes(out, at, b"- -"),
+        Some(d) => put_date(out, at, d),
+        None => put_bytes(out, at, b"- -"),
     }
 }

@@ -99,19 +99,6 @@ fn units_of(x: f64, places: u64, ten: u64) -> Rounded
     in_units(f + 4503599627370496, e, ten)
 }
 
-fn power_of_ten(k: u64) -> u64
-    requires { k ≤ 9 }
-    ensures { (result ≡ 10 ^ k) × (result ≤ 1000000000) }
-{
-    let mut p = 1;
-    let mut i = 0;
-    while i < k {
-        p *= 10;
-        i += 1;
-    }
-    p
-}
-
 fn digit(n: u64) -> u8
     ensures { result ≡ 48 + n % 10 }
 {
@@ -198,7 +185,7 @@ fn put_shown(out: &mut [u8], at: usize, x: f64, places: u64) -> usize
     requires { shown places x ≡ true }
     ensures { Put out.old at (fixed_text places x) out.new result }
 {
-    let ten = power_of_ten(places);
+    let ten = 10u64.pow(places as u32);
     let n = units_of(x, places, ten);
     let minus = has_minus(x, n, ten);
     put_signed(out, at, minus, n, places, ten)

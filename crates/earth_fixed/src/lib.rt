@@ -5,7 +5,7 @@
 ghost use Rattle.std.specs.Prelude.{◌≡◌};
 ghost use Rattle.earth_fixed.specs.Frame as F;
 
-use instant::{Angle, Instant, Radians, greenwich};
+use instant::{Instant, Radians, greenwich};
 
 // The rotation about the pole through an angle.
 pub fn rotation(angle: Radians) -> [[f64; 3]; 3]
@@ -55,7 +55,7 @@ pub fn seen(station: [f64; 3], t: Instant, position: [f64; 3]) -> bool
 {
     let angle = greenwich(t);
     match angle {
-        Angle::Is(a) => seen_through(station, a, position),
-        Angle::Outside => false,
+        Some(a) => seen_through(station, a, position),
+        None => false,
     }
 }

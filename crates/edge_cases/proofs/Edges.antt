@@ -13,7 +13,7 @@ use Rattle.tle.specs.Read.{verdict_of, number_at, pair_of, year_of, day_at, moti
 use Rattle.tle.specs.declared.Record.{Record}
 use Rattle.resonance.specs.Time.{resonant}
 use Rattle.opening.specs.declared.opening.Satellite.{Satellite}
-use Rattle.opening.specs.declared.opening.Opening.TheVariants.{Opened}
+use Rattle.std.specs.Prelude.{Ok}
 use Rattle.opening.specs.Opening.{open_of}
 use Rattle.sgp4.specs.Sgp4.{integrator_of}
 use Rattle.sequences.specs.Edges as E
@@ -69,7 +69,7 @@ days_hold = (refl, ((refl, refl), ((refl, refl), (refl, ((refl, refl), (refl, tt
 
 -- what holds of every newly opened resonant satellite, case by case
 strides_hold : (es : List E.Edge)
-    → ((r : Record) (s : Satellite) → open_of r ≡ Opened s → resonant (integrator_of s.model).resonance ≡ true → E.Each s es)
+    → ((r : Record) (s : Satellite) → open_of r ≡ Ok s → resonant (integrator_of s.model).resonance ≡ true → E.Each s es)
     → Every Claim (map strides es)
 unfolding Every Claim E.Each
 strides_hold [] f = tt

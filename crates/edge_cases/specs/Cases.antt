@@ -1,5 +1,5 @@
 -- Document 01, "Cases at the edges": the cases marked P as data, what each claims, and the list of them; with them cases of document 02.
-use Rattle.std.specs.Prelude.{ℕ, ◌%◌, ◌≡◌, true, List, [], ◌∷◌, ◌++◌, map, take}
+use Rattle.std.specs.Prelude.{ℕ, ◌%◌, ◌≡◌, true, List, [], ◌∷◌, ◌++◌, map, take, Err, Ok, Result}
 use Rattle.instant.specs.Calendar.{day_micros, epoch_micros}
 use Rattle.text.specs.Output.{bytes}
 use Rattle.tle.specs.Examples.{line1, line2}
@@ -8,11 +8,10 @@ use Rattle.tle.specs.Refusals.{number_of, values_of, Values, line, line_column, 
 use Rattle.tle.specs.Read.{checksum_of, fields_of, read_of}
 use Rattle.tle.specs.declared.Field.TheVariants.{Day, Inclination, Node}
 use Rattle.tle.specs.declared.Record as tle
-use Rattle.tle.specs.declared.Reading.{Reading}
-use Rattle.tle.specs.declared.Reading.TheVariants.{Record, Refused}
+use Rattle.tle.specs.declared.Record.{Record}
+use Rattle.tle.specs.declared.Refusal.{Refusal}
 use Rattle.resonance.specs.Time.{resonant}
 use Rattle.opening.specs.declared.opening.Satellite.{Satellite}
-use Rattle.opening.specs.declared.opening.Opening.TheVariants.{Opened}
 use Rattle.opening.specs.Opening.{open_of}
 use Rattle.sgp4.specs.Sgp4.{integrator_of}
 use Rattle.sequences.specs.Demand3.{One, reported}
@@ -39,19 +38,19 @@ pub data Outcome : Type 0 where
   accepted : Outcome
   refused : ℕ → Values → Outcome
 
-unfoldable pub outcome : Reading → Outcome
-outcome (Record r) = accepted
-outcome (Refused why) = refused (number_of why) (values_of why)
+unfoldable pub outcome : Result Record Refusal → Outcome
+outcome (Ok r) = accepted
+outcome (Err why) = refused (number_of why) (values_of why)
 
 -- what a case claims
 unfoldable pub Claim : Case → Type 0
 Claim (line_sum l total digit) = (sum (take 68 l) ≡ total) × (checksum_of l ≡ digit)
 Claim (day_micros_lem year day micros) = epoch_micros year day % day_micros ≡ micros
 Claim (reads p part value) =
-    (read_of p.line1 p.line2 ≡ Record (fields_of p.line1 p.line2)) × (part (fields_of p.line1 p.line2) ≡ value)
+    (read_of p.line1 p.line2 ≡ Ok (fields_of p.line1 p.line2)) × (part (fields_of p.line1 p.line2) ≡ value)
 Claim (refuses p number values) = outcome (read_of p.line1 p.line2) ≡ refused number values
 Claim (strides e) =
-    (r : tle.Record) (s : Satellite) → open_of r ≡ Opened s → resonant (integrator_of s.model).resonance ≡ true
+    (r : tle.Record) (s : Satellite) → open_of r ≡ Ok s → resonant (integrator_of s.model).resonance ≡ true
     → (map (E.refused_nine s) e.times ≡ e.nine) × (reported s (map One e.times) ≡ e.strides)
 
 -- a claim holds of every element of a list

@@ -6,7 +6,7 @@
 #![tactic(auto)]
 
 pub use arctangent::atan2;
-pub use arctangent::pairs::{Angles, atan2_two};
+pub use arctangent::pairs::{Two, atan2_two};
 pub use cube_root::{cbrt, seven_halves, three_halves, two_thirds};
 pub use floats::{abs, is_finite};
 pub use square_root::sqrt;

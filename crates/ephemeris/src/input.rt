@@ -2,9 +2,10 @@
 // marked.
 ghost use Rattle.std.specs.Prelude.{◌≡◌, true};
 
-use ephemeris_answers::rows::{answer, print_room};
+use ephemeris_answers::rows::answer;
 use ephemeris_stages::{Stage, take_stage, wants_line};
 use line_input::{Input, next_line, whole_in};
+use streams::print_room;
 
 // A line in front of the requests, and what is said of it.
 fn take_front(
@@ -48,8 +49,7 @@ fn take_line(
     take_front(rt, failed, stage, first, line, room, numbers, marks)
 }
 
-// A proved loop has to end, and nothing says that the input does: so it counts its turns down, from a
-// number that no run uses up. The lines are counted by them.
+// A proved loop has to end, and nothing says that the input does: no input has so many lines.
 pub(crate) fn run(
     rt: HostRuntime,
     failed: &mut bool,
@@ -64,17 +64,15 @@ pub(crate) fn run(
 {
     let mut input = Input::start();
     let mut stage = Stage::Start;
-    let mut turns = u64::MAX;
-    while turns > 0 {
+    for before in 0..u64::MAX {
         let next = next_line(rt, failed, input, buffer, line);
         if !(next.found | wants_line(stage)) {
             return;
         }
-        let number = u64::MAX - turns + 1;
+        let number = before + 1;
         stage = take_line(
             rt, failed, stage, number, first, line, next.size, room, numbers, marks,
         );
         input = next.input;
-        turns -= 1;
     }
 }

@@ -1,15 +1,13 @@
 -- The row of a time that a satellite in lent memory is asked for. Definitions only.
-use Rattle.std.specs.Prelude.{ℕ, ◌/◌, ◌%◌, ◌≡◌, List, [], ℤ, Float, get_or, replicate}
+use Rattle.std.specs.Prelude.{ℕ, ◌/◌, ◌%◌, ◌≡◌, List, [], ℤ, Float, get_or, replicate, None, Ok, Option, Result, Some}
 use Rattle.std.specs.Float.{nan}
 use Rattle.floats.specs.Notation.{dec}
 use Rattle.text.specs.Output.{Put}
 use Rattle.instant.specs.Move.{move_of}
 use Rattle.instant.specs.Since.{since_of}
 use Rattle.instant.specs.declared.Instant.{Instant}
-use Rattle.instant.specs.declared.Moved.{Moved}
-use Rattle.instant.specs.declared.Moved.TheVariants as moved
-use Rattle.instant.specs.declared.Elapsed.{Elapsed}
-use Rattle.instant.specs.declared.Elapsed.TheVariants as elapsed
+use Rattle.instant.specs.declared.MoveRefusal.{MoveRefusal}
+use Rattle.instant.specs.declared.Microseconds.{Microseconds}
 use Rattle.lent_requests.specs.Requests.{RequestPost}
 use Rattle.ephemeris_text.specs.Rows.{row_text}
 use Rattle.ephemeris_text.specs.declared.State.{State}
@@ -28,7 +26,7 @@ state_in l = record {
 
 -- The satellite is asked for a time, and the row of its answer is put: by specs/Answer of answers bits 0-7 of the answer are
 -- the refusal number and bits 32-63 the strides. The memory afterwards is the one that the request leaves.
-pub record Rowed (sep : ℕ) (when : Moved) (t : ℤ) (ns : List Float) (ms out : List ℕ) (at : ℕ) (ns' : List Float) (ms' out' : List ℕ) (r : ℕ) : Type 0 where
+pub record Rowed (sep : ℕ) (when : Result Instant MoveRefusal) (t : ℤ) (ns : List Float) (ms out : List ℕ) (at : ℕ) (ns' : List Float) (ms' out' : List ℕ) (r : ℕ) : Type 0 where
   pub answer : ℕ
   pub state : List Float
   pub asked : RequestPost ns ms t (replicate 6 (dec 0 0)) answer ns' ms' state
@@ -44,9 +42,9 @@ pub record NoRow (ns : List Float) (ms out : List ℕ) (at : ℕ) (ns' : List Fl
   pub numbers : ns' ≡ ns
   pub marks : ms' ≡ ms
 
-abbrev pub ElapsedRowed : ℕ → Instant → Elapsed → List Float → List ℕ → List ℕ → ℕ → List Float → List ℕ → List ℕ → ℕ → Type 0
-ElapsedRowed sep t (elapsed.Is span) = Rowed sep (moved.To t) span.0
-ElapsedRowed sep t elapsed.Outside = NoRow
+abbrev pub ElapsedRowed : ℕ → Instant → Option Microseconds → List Float → List ℕ → List ℕ → ℕ → List Float → List ℕ → List ℕ → ℕ → Type 0
+ElapsedRowed sep t (Some span) = Rowed sep (Ok t) span.0
+ElapsedRowed sep t None = NoRow
 
 abbrev pub InstantRowed : Sheet → Instant → List Float → List ℕ → List ℕ → ℕ → List Float → List ℕ → List ℕ → ℕ → Type 0
 InstantRowed sheet t = ElapsedRowed sheet.sep t (since_of t.0 sheet.epoch.0)

@@ -7,7 +7,7 @@ pub mod rows; // a request's line answered on standard output
 ghost use Rattle.ephemeris_answers.specs.Answers.{Rowed, TimeRowed, InstantRowed};
 
 use ephemeris_text::{State, put_row};
-use instant::{Elapsed, Instant, Microseconds, Moved, move_by, since};
+use instant::{Instant, Microseconds, MoveRefusal, move_by, since};
 use lent_requests::request_held;
 
 // What every row has in common: the separator and the epoch.
@@ -22,7 +22,7 @@ fn put_answer(
     out: &mut [u8],
     at: usize,
     sep: u8,
-    when: Moved,
+    when: Result<Instant, MoveRefusal>,
     time: i64,
     numbers: &mut [f64; 83],
     marks: &mut [u32; 6],
@@ -72,7 +72,7 @@ pub fn put_at(
 {
     let epoch = sheet.epoch;
     match since(t, epoch) {
-        Elapsed::Is(time) => put_answer(out, at, sheet.sep, Moved::To(t), time.0, numbers, marks),
-        Elapsed::Outside => at,
+        Some(time) => put_answer(out, at, sheet.sep, Ok(t), time.0, numbers, marks),
+        None => at,
     }
 }

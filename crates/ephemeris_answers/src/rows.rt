@@ -5,16 +5,7 @@ ghost use Rattle.std.specs.Prelude.{◌≡◌, true, ◌≤◌};
 
 use crate::{Sheet, put_at, put_time};
 use ephemeris_requests::{Ask, Fault, Grid, put_fault, read_ask, time_at};
-use streams::print;
-
-// The first bytes of a room.
-pub fn print_room(rt: HostRuntime, failed: &mut bool, room: &[u8], n: usize)
-    ensures { failed.old ≡ true → failed.new ≡ true }
-{
-    if n <= room.len() {
-        print(rt, failed, &room[0..n]);
-    }
-}
+use streams::print_room;
 
 // Where the next line may stand: no line has more than 300 bytes (RowFits of ephemeris_text).
 fn with_room(rt: HostRuntime, failed: &mut bool, room: &[u8], at: usize) -> usize
@@ -56,10 +47,8 @@ fn add_times(
     ensures { failed.old ≡ true → failed.new ≡ true }
 {
     let mut at = 0;
-    let mut i = 0;
-    while i < times.len() {
-        at = add_time(rt, failed, room, at, sheet, times[i], numbers, marks);
-        i += 1;
+    for time in times {
+        at = add_time(rt, failed, room, at, sheet, *time, numbers, marks);
     }
     at
 }
@@ -75,16 +64,13 @@ fn add_grid(
 ) -> usize
     ensures { failed.old ≡ true → failed.new ≡ true }
 {
-    let count = grid.count;
     let mut at = 0;
-    let mut i = 0;
-    while i < count {
+    for i in 0..grid.count {
         if *failed {
             return at;
         }
         let time = time_at(grid, i);
         at = add_time(rt, failed, room, at, sheet, time.0, numbers, marks);
-        i += 1;
     }
     at
 }
@@ -95,16 +81,6 @@ fn tell(rt: HostRuntime, number: u64, why: Fault) {
     if n <= 128 {
         streams::tell(rt, &out[0..n]);
     }
-}
-
-// No list that is read is longer than the row for its times.
-fn listed(n: usize) -> usize
-    ensures { result ≤ 1100 }
-{
-    if n <= 1100 {
-        return n;
-    }
-    1100
 }
 
 fn rows_of(
@@ -121,9 +97,10 @@ fn rows_of(
 {
     let mut times = [0i64; 1100];
     match read_ask(line, &mut times) {
+        // No list that is read is longer than the row for its times.
         Ask::Times(n) => {
-            let n = listed(n);
-            add_times(rt, failed, room, sheet, &times[0..n], numbers, marks)
+            let n = n.min(times.len());
+            add_times(rt, failed, room, sheet, &times[..n], numbers, marks)
         }
         Ask::Steps(grid) => add_grid(rt, failed, room, sheet, grid, numbers, marks),
         Ask::At(t) => put_at(room, 0, sheet, t, numbers, marks),

@@ -1,5 +1,5 @@
 -- The request lines of `ephemeris`: those of `replay`, `grid START STEP COUNT` and `at YEAR DAY MICROSECONDS`. Definitions only.
-use Rattle.std.specs.Prelude.{ℕ, ◌*◌, min, Bool, cond, ◌&&◌, List, ◌++◌, leb, eqb, ℤ, pos, ◌+ℤ◌, length, drop}
+use Rattle.std.specs.Prelude.{ℕ, ◌*◌, min, Bool, cond, ◌&&◌, List, ◌++◌, leb, eqb, ℤ, pos, ◌+ℤ◌, length, drop, None, Option, Some}
 use Rattle.text.specs.Output.{bytes, decimal}
 use Rattle.request_line.specs.Times.{signed}
 use Rattle.request_line.specs.Request.{begun, request_of}
@@ -7,8 +7,7 @@ use Rattle.request_line.specs.declared.Request as rs
 use Rattle.request_line.specs.declared.Request.TheVariants as request
 use Rattle.station_text.specs.Words.{first, second, third, whole_in, micro_of, sign_size, start_of}
 use Rattle.station_text.specs.declared.Whole.{Whole}
-use Rattle.station_text.specs.declared.Start as ss
-use Rattle.station_text.specs.declared.Start.TheVariants as start
+use Rattle.instant.specs.declared.Instant.{Instant}
 use Rattle.ephemeris_requests.specs.declared.Signed.{Signed}
 use Rattle.ephemeris_requests.specs.declared.Grid.{Grid}
 use Rattle.ephemeris_requests.specs.declared.Fault as fs
@@ -53,9 +52,9 @@ time_at g i = signed g.minus (min g.start most_start) +ℤ pos (min i most_count
 
 -- ── a line ──
 
-abbrev pub instant_ask : ss.Start → as'.Ask
-instant_ask (start.At t) = ask.At t
-instant_ask start.Unread = ask.Bad fault.Instant
+abbrev pub instant_ask : Option Instant → as'.Ask
+instant_ask (Some t) = ask.At t
+instant_ask None = ask.Bad fault.Instant
 
 unfoldable pub other_of : List ℕ → as'.Ask
 other_of s =

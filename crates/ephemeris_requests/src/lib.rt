@@ -11,7 +11,7 @@ ghost use Rattle.station_text.specs.Words.{start_of};
 
 use instant::{Instant, Microseconds};
 use request_line::{Request, begins, read_request};
-use station_text::{Start, Whole, after, cut_at, read_micro, read_start, read_whole, sign_size};
+use station_text::{Whole, after, cut_at, read_micro, read_start, read_whole, sign_size};
 use text::{put_bytes, put_decimal};
 
 // ---- A grid.
@@ -143,12 +143,12 @@ pub fn time_at(grid: Grid, i: u64) -> Microseconds
 
 // ---- A line.
 
-fn instant_ask(start: Start) -> Ask
+fn instant_ask(start: Option<Instant>) -> Ask
     ensures { result ≡ instant_ask start }
 {
     match start {
-        Start::At(t) => Ask::At(t),
-        Start::Unread => Ask::Bad(Fault::Instant),
+        Some(t) => Ask::At(t),
+        None => Ask::Bad(Fault::Instant),
     }
 }
 

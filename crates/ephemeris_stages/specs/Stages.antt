@@ -1,9 +1,10 @@
 -- The lines in front of the requests of `ephemeris`: `commas` or not, and a pair. Definitions only.
-use Rattle.std.specs.Prelude.{ℕ, ◌%◌, ◌≡◌, List, [], Bool, true, false, cond, eqb, Float, length, take, get_or}
+use Rattle.std.specs.Prelude.{ℕ, ◌%◌, ◌≡◌, List, [], Bool, true, false, cond, eqb, Float, length, take, get_or, Result}
 use Rattle.text.specs.Output.{Put, bytes, decimal, line}
 use Rattle.line_input.specs.Lines.{whole_in}
 use Rattle.opening.specs.Opening.{open_pair_of}
-use Rattle.opening.specs.declared.opening.PairOpening.{PairOpening}
+use Rattle.opening.specs.declared.opening.Satellite.{Satellite}
+use Rattle.opening.specs.declared.opening.PairRefusal.{PairRefusal}
 use Rattle.storage.specs.Storage.{epoch_at}
 use Rattle.lent_opening.specs.Opening.{open_answer, open_numbers, open_marks}
 use Rattle.ephemeris_requests.specs.Requests.{commas_in}
@@ -21,11 +22,11 @@ wants_line (Asking sheet) = false
 wants_line Over = false
 
 -- the pair of a second line and a first one in its room; one that the room does not hold counts as an empty one
-abbrev pub pair_in : ℕ → List ℕ → List ℕ → PairOpening
+abbrev pub pair_in : ℕ → List ℕ → List ℕ → Result Satellite PairRefusal
 pair_in size first line2 = open_pair_of (take (whole_in size (length first)) first) line2
 
 -- the number that refuses a pair, 0 where it is opened: bits 0-7 of the answer, of memory with 83 numbers and 6 marks
-unfoldable pub refusal_of : PairOpening → ℕ
+unfoldable pub refusal_of : Result Satellite PairRefusal → ℕ
 refusal_of p = open_answer p 83 6 % 256
 
 -- what is said of a pair: the header, or that it is refused

@@ -13,10 +13,11 @@ use Rattle.decimals.specs.Fixed.{units_of, shown, units_text, signed_text, fixed
 use Rattle.decimals.proofs.Spelled.{length_places}
 use Rattle.date_text.specs.Date.{day_text, time_text, date_text, instant_text}
 use Rattle.instant.specs.Calendar.{date_of}
-use Rattle.instant.specs.declared.Dated.{Dated}
-use Rattle.instant.specs.declared.Dated.TheVariants as dated
-use Rattle.instant.specs.declared.Moved.{Moved}
-use Rattle.instant.specs.declared.Moved.TheVariants as moved
+use Rattle.std.specs.Prelude.{Err, None, Ok, Option, Result, Some}
+use Rattle.instant.specs.declared.Date.{Date}
+use Rattle.instant.specs.declared.Instant.{Instant}
+use Rattle.instant.specs.declared.MoveRefusal.{MoveRefusal}
+use Rattle.instant.specs.declared.MoveRefusal.TheVariants as move_refusal
 use Rattle.ephemeris_text.specs.declared.State.{State}
 use Rattle.ephemeris_text.specs.Rows.{three_words, state_names, header_text, three_numbers, state_text, no_state, values_text, when_text, row_text}
 use Rattle.ephemeris_text.specs.Claims.{RowFits, HeaderFits}
@@ -51,16 +52,16 @@ values_length sep refusal s =
     (simp length-append (omega (arith, three_length sep 6 s.x s.y s.z (omega arith), three_length sep 9 s.vx s.vy s.vz (omega arith))))
     (simp length-append (omega arith))
 
-date_length : (d : Dated) → length (date_text d) ≤ 26
+date_length : (d : Option Date) → length (date_text d) ≤ 26
 unfolding date_text day_text time_text
-date_length (dated.On d) = simp (length-append, length_places) (omega arith)
-date_length dated.Outside = omega arith
+date_length (Some d) = simp (length-append, length_places) (omega arith)
+date_length None = omega arith
 
-when_length : (when : Moved) → length (when_text when) ≤ 26
+when_length : (when : Result Instant MoveRefusal) → length (when_text when) ≤ 26
 unfolding when_text instant_text
-when_length (moved.To t) = date_length (date_of t.0)
-when_length moved.TooFar = omega arith
-when_length moved.Outside = omega arith
+when_length (Ok t) = date_length (date_of t.0)
+when_length (Err move_refusal.TooFar) = omega arith
+when_length (Err move_refusal.Outside) = omega arith
 
 pub row_fits : RowFits
 unfolding row_text

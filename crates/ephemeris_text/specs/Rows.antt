@@ -1,10 +1,11 @@
 -- The lines that `ephemeris` prints: a header, and a line for each row. One separator throughout, a blank or a comma. Definitions only.
-use Rattle.std.specs.Prelude.{ℕ, cond, List, [], ◌∷◌, ◌++◌, eqb, Float}
+use Rattle.std.specs.Prelude.{ℕ, cond, List, [], ◌∷◌, ◌++◌, eqb, Float, Err, Ok, Result}
 use Rattle.text.specs.Output.{bytes, decimal}
 use Rattle.decimals.specs.Fixed.{fixed_text}
 use Rattle.date_text.specs.Date.{instant_text}
-use Rattle.instant.specs.declared.Moved.{Moved}
-use Rattle.instant.specs.declared.Moved.TheVariants as moved
+use Rattle.instant.specs.declared.Instant.{Instant}
+use Rattle.instant.specs.declared.MoveRefusal.{MoveRefusal}
+use Rattle.instant.specs.declared.MoveRefusal.TheVariants as move_refusal
 use Rattle.ephemeris_text.specs.declared.State.{State}
 
 -- a cell behind its separator
@@ -37,11 +38,11 @@ unfoldable pub values_text : ℕ → ℕ → State → List ℕ
 values_text sep refusal s = cond (eqb refusal 0) (state_text sep s) (no_state sep)
 
 -- the date and the time of day; a time that moves the epoch too far or out of the calendar has none
-unfoldable pub when_text : Moved → List ℕ
-when_text (moved.To t) = instant_text t.0
-when_text moved.TooFar = bytes "- -"
-when_text moved.Outside = bytes "- -"
+unfoldable pub when_text : Result Instant MoveRefusal → List ℕ
+when_text (Ok t) = instant_text t.0
+when_text (Err move_refusal.TooFar) = bytes "- -"
+when_text (Err move_refusal.Outside) = bytes "- -"
 
-unfoldable pub row_text : ℕ → Moved → ℕ → State → ℕ → List ℕ
+unfoldable pub row_text : ℕ → Result Instant MoveRefusal → ℕ → State → ℕ → List ℕ
 row_text sep when refusal s strides =
     when_text when ++ (cell sep (decimal refusal) ++ (values_text sep refusal s ++ (cell sep (decimal strides) ++ (10 ∷ []))))

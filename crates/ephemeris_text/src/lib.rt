@@ -10,7 +10,7 @@ ghost use Rattle.ephemeris_text.specs.Rows.{cell, three_words, state_names, head
 
 use date_text::put_instant;
 use decimals::put_fixed;
-use instant::Moved;
+use instant::{Instant, MoveRefusal};
 use text::{put_byte, put_bytes, put_decimal};
 
 // A position in km and a velocity in km/s.
@@ -110,13 +110,14 @@ fn put_values(out: &mut [u8], at: usize, sep: u8, refusal: u64, s: State) -> usi
     put_no_state(out, at, sep)
 }
 
-fn put_when(out: &mut [u8], at: usize, when: Moved) -> usize
+#[tactic(auto, unfolding(crate::specs::Rows::when_text))]
+fn put_when(out: &mut [u8], at: usize, when: Result<Instant, MoveRefusal>) -> usize
     ensures { Put out.old at (when_text when) out.new result }
 {
     match when {
-        Moved::To(t) => put_instant(out, at, t),
-        Moved::TooFar => put_bytes(out, at, b"- -"),
-        Moved::Outside => put_bytes(out, at, b"- -"),
+        Ok(t) => put_instant(out, at, t),
+        Err(MoveRefusal::TooFar) => put_bytes(out, at, b"- -"),
+        Err(MoveRefusal::Outside) => put_bytes(out, at, b"- -"),
     }
 }
 
@@ -126,7 +127,7 @@ pub fn put_row(
     out: &mut [u8],
     at: usize,
     sep: u8,
-    when: Moved,
+    when: Result<Instant, MoveRefusal>,
     refusal: u64,
     s: State,
     strides: u64,

@@ -10,20 +10,13 @@ use line_input::{Input, whole_in};
 use pair_input::next_step;
 use pair_lines::{put_heading, put_summary};
 use pair_steps::{Pairs, Step, What, more};
+use streams::print_room;
 
 // The pairs and those that are well so far.
 #[derive(Clone, Copy)]
 pub(crate) struct Tally {
     pub pairs: u64,
     pub well: u64,
-}
-
-fn print_text(rt: HostRuntime, failed: &mut bool, out: &[u8], n: usize)
-    ensures { failed.old ≡ true → failed.new ≡ true }
-{
-    if n <= out.len() {
-        streams::print(rt, failed, &out[0..n]);
-    }
 }
 
 fn counted(t: Tally, well: bool) -> Tally
@@ -74,7 +67,7 @@ fn explain_pair(
 {
     let mut out = [0u8; 1024];
     let n = put_told(&mut out, first, second, line1, line2);
-    print_text(rt, failed, &out, n);
+    print_room(rt, failed, &out, n);
     let t = counted(t, is_well(line1, line2));
     tell_progress(rt, t.pairs);
     t
@@ -109,7 +102,7 @@ fn take_step(
             )
         }
         What::Said(n) => {
-            print_text(rt, failed, out, n);
+            print_room(rt, failed, out, n);
             t
         }
         What::Over => t,
@@ -121,11 +114,10 @@ fn print_summary(rt: HostRuntime, failed: &mut bool, lines: u64, t: Tally)
 {
     let mut out = [0u8; 128];
     let n = put_summary(&mut out, 0, lines, t.pairs, t.well);
-    print_text(rt, failed, &out, n);
+    print_room(rt, failed, &out, n);
 }
 
-// A proved loop has to end, and nothing says that the input does. So it counts its turns down, from a
-// number that no run uses up.
+// A proved loop has to end, and nothing says that the input does: no run uses up so many turns.
 pub(crate) fn explain_text(rt: HostRuntime, failed: &mut bool)
     ensures { failed.old ≡ true → failed.new ≡ true }
 {
@@ -136,8 +128,7 @@ pub(crate) fn explain_text(rt: HostRuntime, failed: &mut bool)
     let mut input = Input::start();
     let mut pairs = Pairs::start();
     let mut t = Tally { pairs: 0, well: 0 };
-    let mut turns = u64::MAX;
-    while turns > 0 {
+    for _ in 0..u64::MAX {
         let next = next_step(
             rt,
             failed,
@@ -157,6 +148,5 @@ pub(crate) fn explain_text(rt: HostRuntime, failed: &mut bool)
             return;
         }
         t = take_step(rt, failed, t, step, &line1, &line, &out);
-        turns -= 1;
     }
 }

@@ -1,15 +1,14 @@
 -- A pair explained: what refuses it, in a sentence (document 01, refusals 1 to 8), or its number, epoch, period and kind.
-use Rattle.std.specs.Prelude.{ℕ, ◌/◌, ◌%◌, List, ◌++◌, Bool, true, false, cond, eqb}
+use Rattle.std.specs.Prelude.{ℕ, ◌/◌, ◌%◌, List, ◌++◌, Bool, true, false, cond, eqb, Err, None, Ok, Option, Result, Some}
 use Rattle.text.specs.Output.{bytes, decimal}
 use Rattle.marked_line.specs.Marked.{part}
 use Rattle.reading_faults.specs.Fault.{fault_text}
 use Rattle.tle.specs.declared.Record as tle
-use Rattle.tle.specs.declared.Reading.{Reading}
-use Rattle.tle.specs.declared.Reading.TheVariants.{Record, Refused}
 use Rattle.opening.specs.Opening.{open_of}
 use Rattle.instant.specs.Calendar.{epoch_of}
-use Rattle.instant.specs.declared.Epoch.{Epoch}
-use Rattle.instant.specs.declared.Epoch.TheVariants as epoch
+use Rattle.instant.specs.declared.Instant.{Instant}
+use Rattle.tle.specs.declared.Record.{Record}
+use Rattle.tle.specs.declared.Refusal.{Refusal}
 use Rattle.date_text.specs.Date.{instant_text}
 use Rattle.decimals.specs.Fixed.{fixed_text}
 use Rattle.satellite_kind.specs.Kind.{opening_kind, perigee_depth}
@@ -24,9 +23,9 @@ unfoldable pub period_text : ℕ → List ℕ
 period_text motion = bytes ", period " ++ (decimal (period_of motion / 60) ++ (bytes " min " ++ (decimal (period_of motion % 60) ++ bytes " s")))
 
 -- an epoch as a date and a time of day
-abbrev pub date_of_epoch : Epoch → List ℕ
-date_of_epoch (epoch.At t) = instant_text t.0
-date_of_epoch epoch.Outside = bytes "- -"
+abbrev pub date_of_epoch : Option Instant → List ℕ
+date_of_epoch (Some t) = instant_text t.0
+date_of_epoch None = bytes "- -"
 
 -- and the day as columns 21 to 32 of line 1 have it
 unfoldable pub epoch_text : tle.Record → List ℕ → List ℕ
@@ -52,9 +51,9 @@ record_text NoRecord r line1 = bytes "refusal 16: no two lines have these fields
 unfoldable pub opened_text : tle.Record → List ℕ → List ℕ
 opened_text r line1 = record_text (opening_kind (open_of r)) r line1
 
-unfoldable pub reading_text : Reading → List ℕ → List ℕ → List ℕ
-reading_text (Record r) line1 line2 = opened_text r line1
-reading_text (Refused why) line1 line2 = fault_text why line1 line2
+unfoldable pub reading_text : Result Record Refusal → List ℕ → List ℕ → List ℕ
+reading_text (Ok r) line1 line2 = opened_text r line1
+reading_text (Err why) line1 line2 = fault_text why line1 line2
 
 -- a satellite comes of it
 abbrev pub opens : Kind → Bool
@@ -67,9 +66,9 @@ opens NotFinite = false
 opens NoRecord = false
 
 -- accepted, and opens
-unfoldable pub is_well : Reading → Bool
-is_well (Record r) = opens (opening_kind (open_of r))
-is_well (Refused why) = false
+unfoldable pub is_well : Result Record Refusal → Bool
+is_well (Ok r) = opens (opening_kind (open_of r))
+is_well (Err why) = false
 
 -- how far a long text is
 unfoldable pub progress_text : ℕ → List ℕ

@@ -8,12 +8,12 @@ ghost use Rattle.explanation.specs.Explained.{period_of, period_text, date_of_ep
 
 use date_text::put_instant;
 use decimals::put_fixed;
-use instant::Epoch;
+use instant::Instant;
 use marked_line::put_part;
 use reading_faults::put_fault;
 use satellite_kind::{Kind, kind_of, perigee_depth};
 use text::{put_bytes, put_decimal};
-use tle::{Form, Reading, Record, epoch, read_form, read_meaning};
+use tle::{Record, Refusal, epoch, read_form, read_meaning};
 
 // The whole seconds of a revolution, by the mean motion in 10 ^ -8 revolution a day.
 fn period_of(motion: u64) -> u64
@@ -36,12 +36,12 @@ fn put_period(out: &mut [u8], at: usize, motion: u64) -> usize
     put_bytes(out, p, b" s")
 }
 
-fn put_date(out: &mut [u8], at: usize, epoch: Epoch) -> usize
+fn put_date(out: &mut [u8], at: usize, epoch: Option<Instant>) -> usize
     ensures { Put out.old at (date_of_epoch epoch) out.new result }
 {
     match epoch {
-        Epoch::At(t) => put_instant(out, at, t),
-        Epoch::Outside => put_bytes(out, at, b"- -"),
+        Some(t) => put_instant(out, at, t),
+        None => put_bytes(out, at, b"- -"),
     }
 }
 
@@ -103,12 +103,18 @@ fn put_opened(out: &mut [u8], at: usize, r: Record, line1: &[u8]) -> usize
     put_record(out, at, kind, r, line1)
 }
 
-fn put_reading(out: &mut [u8], at: usize, reading: Reading, line1: &[u8], line2: &[u8]) -> usize
+fn put_reading(
+    out: &mut [u8],
+    at: usize,
+    reading: Result<Record, Refusal>,
+    line1: &[u8],
+    line2: &[u8],
+) -> usize
     ensures { Put out.old at (reading_text reading line1.now line2.now) out.new result }
 {
     match reading {
-        Reading::Record(r) => put_opened(out, at, r, line1),
-        Reading::Refused(why) => put_fault(out, at, why, line1, line2),
+        Ok(r) => put_opened(out, at, r, line1),
+        Err(why) => put_fault(out, at, why, line1, line2),
     }
 }
 
@@ -116,9 +122,9 @@ fn put_reading(out: &mut [u8], at: usize, reading: Reading, line1: &[u8], line2:
 pub fn put_explanation(out: &mut [u8], at: usize, line1: &[u8], line2: &[u8]) -> usize
     ensures { Put out.old at (reading_text (read_of line1.now line2.now) line1.now line2.now) out.new result }
 {
-    let form = read_form(line1, line2);
-    let Form::Fields(fields) = form else {
-        return put_reading(out, at, Reading::Refused(form.refusal()), line1, line2);
+    let fields = match read_form(line1, line2) {
+        Ok(fields) => fields,
+        Err(why) => return put_reading(out, at, Err(why), line1, line2),
     };
     put_reading(out, at, read_meaning(fields), line1, line2)
 }
@@ -137,12 +143,12 @@ fn opens(kind: Kind) -> bool
     }
 }
 
-fn well(reading: Reading) -> bool
+fn well(reading: Result<Record, Refusal>) -> bool
     ensures { result ≡ is_well reading }
 {
     match reading {
-        Reading::Record(r) => opens(kind_of(r)),
-        Reading::Refused(_) => false,
+        Ok(r) => opens(kind_of(r)),
+        Err(_) => false,
     }
 }
 
@@ -150,9 +156,9 @@ fn well(reading: Reading) -> bool
 pub fn is_well(line1: &[u8], line2: &[u8]) -> bool
     ensures { result ≡ is_well (read_of line1.now line2.now) }
 {
-    let form = read_form(line1, line2);
-    let Form::Fields(fields) = form else {
-        return well(Reading::Refused(form.refusal()));
+    let fields = match read_form(line1, line2) {
+        Ok(fields) => fields,
+        Err(why) => return well(Err(why)),
     };
     well(read_meaning(fields))
 }

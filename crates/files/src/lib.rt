@@ -20,10 +20,7 @@ fn put_label(text: &mut [u8], what: &[u8], name: &[u8]) -> usize
 {
     let n = put_bytes(text, 0, what);
     let n = put_bytes(text, n, name);
-    if n <= text.len() {
-        return n;
-    }
-    text.len()
+    n.min(text.len())
 }
 
 fn fail(rt: HostRuntime, what: &[u8], name: &[u8], error: &Error) {
@@ -32,12 +29,20 @@ fn fail(rt: HostRuntime, what: &[u8], name: &[u8], error: &Error) {
     streams::fail(rt, &text[..n], error);
 }
 
+// What was got, or what failed is told.
+fn or_told<T>(rt: HostRuntime, what: &[u8], name: &[u8], got: Result<T>) -> Option<T> {
+    match got {
+        Ok(value) => Some(value),
+        Err(error) => {
+            fail(rt, what, name, &error);
+            None
+        }
+    }
+}
+
 // A name as text: another names no file here.
 fn text_of(name: &[u8]) -> Result<&str> {
-    match str::from_utf8(name) {
-        Ok(text) => Ok(text),
-        Err(_) => Err(Error::from(ErrorKind::InvalidFilename)),
-    }
+    str::from_utf8(name).map_err(|_| Error::from(ErrorKind::InvalidFilename))
 }
 
 fn open_read(rt: HostRuntime, name: &[u8]) -> Result<File> {
@@ -61,17 +66,25 @@ fn read_opened(
     streams::read_all_from(rt, failed, space, &mut file, &text[..n])
 }
 
-// Reads the file of this name to its end, or until the space is full.
-pub fn read_file(rt: HostRuntime, failed: &mut bool, name: &[u8], space: &mut [u8]) -> usize
+// Reads the file of this name to its end, or until the space is full. Where `absent` is some number, one
+// that is not there has as many of the first bytes of the space as they are.
+fn read_named(
+    rt: HostRuntime,
+    failed: &mut bool,
+    name: &[u8],
+    space: &mut [u8],
+    absent: Option<usize>,
+) -> usize
     ensures prefix_len { IsPrefixLen result space.new }
     ensures failed_after { failed.old ≡ true → (failed.new ≡ true) × (result ≡ 0) × (space.new ≡ space.old) }
 {
     if *failed {
         return 0;
     }
-    match open_read(rt, name) {
-        Ok(file) => read_opened(rt, failed, name, space, file),
-        Err(error) => {
+    match (open_read(rt, name), absent) {
+        (Ok(file), _) => read_opened(rt, failed, name, space, file),
+        (Err(error), Some(size)) if error.kind() == ErrorKind::NotFound => at_most(size, space),
+        (Err(error), _) => {
             fail(rt, b"cannot open ", name, &error);
             *failed = true;
             0
@@ -79,13 +92,18 @@ pub fn read_file(rt: HostRuntime, failed: &mut bool, name: &[u8], space: &mut [u
     }
 }
 
+// Reads the file of this name to its end, or until the space is full.
+pub fn read_file(rt: HostRuntime, failed: &mut bool, name: &[u8], space: &mut [u8]) -> usize
+    ensures prefix_len { IsPrefixLen result space.new }
+    ensures failed_after { failed.old ≡ true → (failed.new ≡ true) × (result ≡ 0) × (space.new ≡ space.old) }
+{
+    read_named(rt, failed, name, space, None)
+}
+
 fn at_most(n: usize, space: &[u8]) -> usize
     ensures { IsPrefixLen result space.now }
 {
-    if n <= space.len() {
-        return n;
-    }
-    space.len()
+    n.min(space.len())
 }
 
 // The same, but a file that is not there has the first bytes of the space as it is, so many as `absent` says.
@@ -99,20 +117,7 @@ pub fn read_file_or(
     ensures prefix_len { IsPrefixLen result space.new }
     ensures failed_after { failed.old ≡ true → (failed.new ≡ true) × (result ≡ 0) × (space.new ≡ space.old) }
 {
-    if *failed {
-        return 0;
-    }
-    match open_read(rt, name) {
-        Ok(file) => read_opened(rt, failed, name, space, file),
-        Err(error) => {
-            if error.kind() == ErrorKind::NotFound {
-                return at_most(absent, space);
-            }
-            fail(rt, b"cannot open ", name, &error);
-            *failed = true;
-            0
-        }
-    }
+    read_named(rt, failed, name, space, Some(absent))
 }
 
 // ---- The program's arguments.
@@ -179,20 +184,9 @@ fn write_out(file: File, bytes: &[u8]) -> Result<()> {
 }
 
 // Writes a new file, and waits until its device has it.
-fn write_new(rt: HostRuntime, name: &[u8], bytes: &[u8]) -> bool {
-    match create(rt, name) {
-        Ok(file) => match write_out(file, bytes) {
-            Ok(()) => true,
-            Err(error) => {
-                fail(rt, b"cannot write ", name, &error);
-                false
-            }
-        },
-        Err(error) => {
-            fail(rt, b"cannot make ", name, &error);
-            false
-        }
-    }
+fn write_new(rt: HostRuntime, name: &[u8], bytes: &[u8]) -> Option<()> {
+    let file = or_told(rt, b"cannot make ", name, create(rt, name))?;
+    or_told(rt, b"cannot write ", name, write_out(file, bytes))
 }
 
 fn folder_after(size: usize, next: usize, b: u8) -> usize
@@ -210,32 +204,19 @@ pub fn folder_size(name: &[u8]) -> usize
     ensures { (result ≡ folder_size name.now) × IsPrefixLen result name.now }
 {
     let mut size = 0;
-    let mut i = 0;
-    while i < name.len() {
-        size = folder_after(size, i + 1, name[i]);
-        i += 1;
+    for (i, b) in name.iter().enumerate() {
+        size = folder_after(size, i + 1, *b);
     }
     size
 }
 
 // Waits until the device has a folder's names. A folder that cannot be waited for is none of ours.
-fn sync_folder(rt: HostRuntime, folder: &[u8]) -> bool {
-    match open_read(rt, folder) {
-        Ok(opened) => match opened.sync_all() {
-            Ok(()) => true,
-            Err(error) => {
-                fail(rt, b"cannot write ", folder, &error);
-                false
-            }
-        },
-        Err(error) => {
-            fail(rt, b"cannot open ", folder, &error);
-            false
-        }
-    }
+fn sync_folder(rt: HostRuntime, folder: &[u8]) -> Option<()> {
+    let opened = or_told(rt, b"cannot open ", folder, open_read(rt, folder))?;
+    or_told(rt, b"cannot write ", folder, opened.sync_all())
 }
 
-fn sync_name(rt: HostRuntime, name: &[u8]) -> bool {
+fn sync_name(rt: HostRuntime, name: &[u8]) -> Option<()> {
     let n = folder_size(name);
     if n == 0 {
         return sync_folder(rt, b".");
@@ -264,28 +245,26 @@ pub fn replace_file(rt: HostRuntime, failed: &mut bool, name: &[u8], bytes: &[u8
     let n = put_label(&mut beside, name, b".new");
     // what one that was stopped left behind
     let _ = unlink(rt, &beside[..n]);
-    if !write_new(rt, &beside[..n], bytes) {
+    if write_new(rt, &beside[..n], bytes).is_none() {
         let _ = unlink(rt, &beside[..n]);
         *failed = true;
         return;
     }
-    if let Err(error) = rename(rt, &beside[..n], name) {
-        fail(rt, b"cannot replace ", name, &error);
+    if or_told(rt, b"cannot replace ", name, rename(rt, &beside[..n], name)).is_none() {
         let _ = unlink(rt, &beside[..n]);
         *failed = true;
         return;
     }
-    if !sync_name(rt, name) {
+    if sync_name(rt, name).is_none() {
         *failed = true;
     }
 }
 
 // ---- One at a time.
 
-// Makes a file that nobody has, waiting a second or some while somebody has it: a proved loop has to end.
+// Makes a file that nobody has, waiting a second or some while somebody has it.
 fn make_alone(rt: HostRuntime, name: &[u8]) -> Result<()> {
-    let mut turns: u64 = 400000;
-    while turns > 0 {
+    for _ in 0..400000u32 {
         match create(rt, name) {
             Ok(_) => return Ok(()),
             Err(error) => {
@@ -295,7 +274,6 @@ fn make_alone(rt: HostRuntime, name: &[u8]) -> Result<()> {
             }
         }
         thread::yield_now();
-        turns -= 1;
     }
     Err(Error::from(ErrorKind::AlreadyExists))
 }
@@ -335,8 +313,7 @@ pub fn unlock_file(rt: HostRuntime, failed: &mut bool, name: &[u8])
 {
     let mut lock = [0u8; 4200];
     let n = put_label(&mut lock, name, b".lock");
-    if let Err(error) = unlink(rt, &lock[..n]) {
-        fail(rt, b"cannot remove ", &lock[..n], &error);
+    if or_told(rt, b"cannot remove ", &lock[..n], unlink(rt, &lock[..n])).is_none() {
         *failed = true;
     }
 }

@@ -8,7 +8,7 @@ ghost use Rattle.horizon.specs.Horizon as Z;
 use earth_fixed::{rotation, turned};
 use elementary::{atan2, sqrt};
 use geodetic::Site;
-use instant::{Angle, Degrees, Instant, Radians, greenwich};
+use instant::{Degrees, Instant, Radians, greenwich};
 
 // Products with east, north and up of an Earth-fixed position less the station's.
 fn local(site: Site, p: [f64; 3]) -> [f64; 3]
@@ -49,8 +49,8 @@ pub fn sine(site: Site, t: Instant, p: [f64; 3]) -> f64
 {
     let angle = greenwich(t);
     match angle {
-        Angle::Is(a) => sine_through(site, a, p),
-        Angle::Outside => -1.0,
+        Some(a) => sine_through(site, a, p),
+        None => -1.0,
     }
 }
 
@@ -116,7 +116,7 @@ pub fn look_angles(site: Site, t: Instant, p: [f64; 3]) -> Look
 {
     let angle = greenwich(t);
     match angle {
-        Angle::Is(a) => look_through(site, a, p),
-        Angle::Outside => straight_down(),
+        Some(a) => look_through(site, a, p),
+        None => straight_down(),
     }
 }

@@ -10,9 +10,7 @@ use Rattle.instant.specs.Move.{move_of}
 use Rattle.instant.specs.Since.{since_of}
 use Rattle.instant.specs.Claims.{EpochsApart, EpochsDiffer, DatesAreEpochs, SinceThenMove, MoveThenSince, SinceItself}
 use Rattle.instant.specs.declared.Date.{Date}
-use Rattle.instant.specs.declared.Dated.{Dated}
-use Rattle.instant.specs.declared.Dated.TheVariants as dated
-use Rattle.instant.specs.declared.Epoch.TheVariants as epoch
+use Rattle.std.specs.Prelude.{None, Option, Some}
 use Rattle.instant.proofs.Calendar.{calendar_end_lem, days_before_lem, last_day_counts, year_bounds, day_ends, day_within, year_within, day_bounds, year_begun, year_not_over, inside}
 use Rattle.instant.proofs.Move.{move_made}
 use Rattle.instant.proofs.Difference.{reached_sum, sum_since, since_sum, since_given}
@@ -37,9 +35,9 @@ pub record Parts (t year day micros : ℕ) : Type 0 where
   pub whole : together year day micros ≡ t
 
 -- `date_of` gives them for every instant of the calendar
-abbrev pub Apart : ℕ → Dated → Type 0
-Apart t (dated.On d) = Parts t d.year d.day d.micros
-Apart t dated.Outside = ⊥
+abbrev pub Apart : ℕ → Option Date → Type 0
+Apart t (Some d) = Parts t d.year d.day d.micros
+Apart t None = ⊥
 
 parts : (t : ℕ) → t < 3155760000000000 → let days = t / day_micros in let k = years_since days in Parts t (1957 + k) (days - days_before k + 1) (t % day_micros)
 unfolding together years_since days_before
@@ -65,10 +63,10 @@ apart_together t h =
     let g : t < 3155760000000000 = subst (λ (z : ℕ). t < z) calendar_end_lem h in
     let days = t / day_micros in
     let k = years_since days in
-    subst (λ (b : Bool). Apart t (cond b (dated.On (record { year = 1957 + k; day = days - days_before k + 1; micros = t % day_micros })) dated.Outside)) (sym (inside t g)) (parts t g)
+    subst (λ (b : Bool). Apart t (cond b (Some (record { year = 1957 + k; day = days - days_before k + 1; micros = t % day_micros })) None)) (sym (inside t g)) (parts t g)
 
 -- ---- every readable epoch lies in the calendar: 2056 has 366 days
-pub epoch_inside : (year day : ℕ) → year_in_range year ≡ true → day_in_range year day ≡ true → (epoch_of year day ≡ epoch.At (record { 0 = epoch_micros year day })) × (epoch_micros year day < calendar_end)
+pub epoch_inside : (year day : ℕ) → year_in_range year ≡ true → day_in_range year day ≡ true → (epoch_of year day ≡ Some (record { 0 = epoch_micros year day })) × (epoch_micros year day < calendar_end)
 unfolding epoch_of epoch_micros
 epoch_inside year day y h =
     let b = year_bounds year y in
@@ -90,7 +88,7 @@ one_year d k lo hi =
     omega arith
 
 -- so a date put together and taken apart is that date
-pub together_apart : (t year day micros : ℕ) → Parts t year day micros → date_of t ≡ dated.On (record { year = year; day = day; micros = micros })
+pub together_apart : (t year day micros : ℕ) → Parts t year day micros → date_of t ≡ Some (record { year = year; day = day; micros = micros })
 unfolding date_of together days_before
 together_apart t year day micros p =
     let k = year - 1957 in
@@ -127,17 +125,17 @@ epochs_apart year day y h =
       whole = w;
     })
 
-abbrev year_of : Dated → ℕ
-year_of (dated.On d) = d.year
-year_of dated.Outside = 0
+abbrev year_of : Option Date → ℕ
+year_of (Some d) = d.year
+year_of None = 0
 
-abbrev day_of : Dated → ℕ
-day_of (dated.On d) = d.day
-day_of dated.Outside = 0
+abbrev day_of : Option Date → ℕ
+day_of (Some d) = d.day
+day_of None = 0
 
-abbrev time_of : Dated → ℕ
-time_of (dated.On d) = d.micros
-time_of dated.Outside = 0
+abbrev time_of : Option Date → ℕ
+time_of (Some d) = d.micros
+time_of None = 0
 
 pub epochs_differ : EpochsDiffer
 epochs_differ year day year' day' y h y' h' e =
@@ -147,17 +145,17 @@ epochs_differ year day year' day' y h y' h' e =
     (ap year_of s, omega arith)
 
 -- an instant that has a date is one of the calendar
-dated_inside : (t : ℕ) (b : Bool) (x d : Date) → in_calendar t ≡ b → cond b (dated.On x) dated.Outside ≡ dated.On d → t < calendar_end
+dated_inside : (t : ℕ) (b : Bool) (x d : Date) → in_calendar t ≡ b → cond b (Some x) None ≡ Some d → t < calendar_end
 unfolding in_calendar
 dated_inside t true x d h e = ltb-true t calendar_end h
-dated_inside t false x d h e = let z : ◌≡◌ {A = ℕ} 0 1 = ap (λ (a : Dated). given a) e in absurd (omega arith)
+dated_inside t false x d h e = let z : ◌≡◌ {A = ℕ} 0 1 = ap (λ (a : Option Date). given a) e in absurd (omega arith)
   where
-    given : Dated → ℕ
-    given (dated.On y) = 1
-    given dated.Outside = 0
+    given : Option Date → ℕ
+    given (Some y) = 1
+    given None = 0
 
 -- so its parts are those of the date
-dated_parts : (t : ℕ) (d : Date) → date_of t ≡ dated.On d → Parts t d.year d.day d.micros
+dated_parts : (t : ℕ) (d : Date) → date_of t ≡ Some d → Parts t d.year d.day d.micros
 unfolding date_of
 dated_parts t d e = subst (Apart t) e (apart_together t (dated_inside t (in_calendar t) _ d refl e))
 
@@ -170,7 +168,7 @@ dates_are_epochs t year day units e =
     let s : epoch_micros year d ≡ t = omega (arith, p.day_from, w) in
     let y = year_within year p.first p.last in
     let h = day_within year d (omega (arith, p.day_from)) (omega (arith, p.day_to, p.time, last_day_counts year)) in
-    (epoch_inside year d y h).0 ∙ ap (λ (z : ℕ). epoch.At (record { 0 = z })) s
+    (epoch_inside year d y h).0 ∙ ap (λ (z : ℕ). Some (record { 0 = z })) s
 
 -- ---- time since an epoch, and moves
 pub since_then_move : SinceThenMove

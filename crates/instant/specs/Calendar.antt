@@ -1,9 +1,7 @@
 -- Instants and their calendar, document 01, "Instants". Definitions only.
-use Rattle.std.specs.Prelude.{ℕ, zero, suc, ◌+◌, ◌-◌, ◌*◌, ◌/◌, ◌%◌, Bool, cond, ◌&&◌, List, [], ◌∷◌, leb, ltb, eqb}
-use Rattle.instant.specs.declared.Epoch.{Epoch}
-use Rattle.instant.specs.declared.Epoch.TheVariants as epoch
-use Rattle.instant.specs.declared.Dated.{Dated}
-use Rattle.instant.specs.declared.Dated.TheVariants as dated
+use Rattle.std.specs.Prelude.{ℕ, zero, suc, ◌+◌, ◌-◌, ◌*◌, ◌/◌, ◌%◌, Bool, cond, ◌&&◌, List, [], ◌∷◌, leb, ltb, eqb, None, Option, Some}
+use Rattle.instant.specs.declared.Instant.{Instant}
+use Rattle.instant.specs.declared.Date.{Date}
 
 -- microseconds in a day of 86,400 s, and in one unit of the epoch's last digit, 10 ^ -8 day
 abbrev pub day_micros : ℕ
@@ -48,33 +46,33 @@ together year day micros = (days_before (year - 1957) + (day - 1)) * day_micros 
 unfoldable pub epoch_micros : ℕ → ℕ → ℕ
 epoch_micros year day = days_before (year - 1957) * day_micros + (day - 100000000) * unit_micros
 
-unfoldable pub epoch_of : ℕ → ℕ → Epoch
-epoch_of year day = cond (year_in_range year && day_in_range year day) (epoch.At (record { 0 = epoch_micros year day })) epoch.Outside
+unfoldable pub epoch_of : ℕ → ℕ → Option Instant
+epoch_of year day = cond (year_in_range year && day_in_range year day) (Some (record { 0 = epoch_micros year day })) None
 
 -- The years before the year of a day, from 1957, by the days before that day. `one_year` of proofs/Theorems.antt says that no other year has it
 unfoldable pub years_since : ℕ → ℕ
 years_since days = (4 * days + 3) / 1461
 
 -- an instant as year, day of the year from 1, microseconds of the day
-unfoldable pub date_of : ℕ → Dated
+unfoldable pub date_of : ℕ → Option Date
 date_of t =
     let days = t / day_micros in
     let k = years_since days in
-    cond (in_calendar t) (dated.On (record { year = 1957 + k; day = days - days_before k + 1; micros = t % day_micros })) dated.Outside
+    cond (in_calendar t) (Some (record { year = 1957 + k; day = days - days_before k + 1; micros = t % day_micros })) None
 
 -- document 01's refusal number of each answer, 0 where there is an instant or a date, and what comes back: with a refusal nothing
-unfoldable pub epoch_refusal : Epoch → ℕ
-epoch_refusal (epoch.At t) = 0
-epoch_refusal epoch.Outside = 6
+unfoldable pub epoch_refusal : Option Instant → ℕ
+epoch_refusal (Some t) = 0
+epoch_refusal None = 6
 
-unfoldable pub epoch_values : Epoch → List ℕ
-epoch_values (epoch.At t) = t.0 ∷ []
-epoch_values epoch.Outside = []
+unfoldable pub epoch_values : Option Instant → List ℕ
+epoch_values (Some t) = t.0 ∷ []
+epoch_values None = []
 
-unfoldable pub dated_refusal : Dated → ℕ
-dated_refusal (dated.On d) = 0
-dated_refusal dated.Outside = 6
+unfoldable pub dated_refusal : Option Date → ℕ
+dated_refusal (Some d) = 0
+dated_refusal None = 6
 
-unfoldable pub dated_values : Dated → List ℕ
-dated_values (dated.On d) = d.year ∷ d.day ∷ d.micros ∷ []
-dated_values dated.Outside = []
+unfoldable pub dated_values : Option Date → List ℕ
+dated_values (Some d) = d.year ∷ d.day ∷ d.micros ∷ []
+dated_values None = []

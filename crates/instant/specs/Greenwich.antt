@@ -1,15 +1,13 @@
 -- Days and the Greenwich angle, document 01, "Numbers the model rests on", and 002's gstime (lines 3638-3657). Definitions only.
-use Rattle.std.specs.Prelude.{ℕ, false, cond, List, [], ◌∷◌, Float}
+use Rattle.std.specs.Prelude.{ℕ, false, cond, List, [], ◌∷◌, Float, None, Option, Some}
 use Rattle.std.specs.Float.{binary64}
 use Rattle.std.specs.Float.Ieee.{round, neg, lt}
 use Rattle.elementary.specs.Notation.{◌⊕◌, ◌⊖◌, ◌⊗◌, ◌⊘◌, dec, two_pi}
 use Rattle.elementary.specs.Trig.{turned}
 use Rattle.instant.specs.Quantity.{deg2rad}
 use Rattle.instant.specs.Calendar.{in_calendar}
-use Rattle.instant.specs.declared.DayCount.{DayCount}
-use Rattle.instant.specs.declared.DayCount.TheVariants as days
-use Rattle.instant.specs.declared.Angle.{Angle}
-use Rattle.instant.specs.declared.Angle.TheVariants as angle
+use Rattle.instant.specs.declared.Days.{Days}
+use Rattle.instant.specs.declared.Radians.{Radians}
 
 -- "the epoch's microseconds since 1957 January 1 divided by 86,400,000,000, plus 2,558"
 unfoldable pub epoch_days_of : ℕ → Float
@@ -40,28 +38,28 @@ greenwich_of t = gstime_of (julian_of t)
 
 -- ---- the answers: refusal 6 where "an instant given .. is outside 1957-2056"
 
-unfoldable pub epoch_days_at : ℕ → DayCount
-epoch_days_at t = cond (in_calendar t) (days.Is (record { 0 = epoch_days_of t })) days.Outside
+unfoldable pub epoch_days_at : ℕ → Option Days
+epoch_days_at t = cond (in_calendar t) (Some (record { 0 = epoch_days_of t })) None
 
-unfoldable pub julian_at : ℕ → DayCount
-julian_at t = cond (in_calendar t) (days.Is (record { 0 = julian_of t })) days.Outside
+unfoldable pub julian_at : ℕ → Option Days
+julian_at t = cond (in_calendar t) (Some (record { 0 = julian_of t })) None
 
-unfoldable pub greenwich_at : ℕ → Angle
-greenwich_at t = cond (in_calendar t) (angle.Is (record { 0 = greenwich_of t })) angle.Outside
+unfoldable pub greenwich_at : ℕ → Option Radians
+greenwich_at t = cond (in_calendar t) (Some (record { 0 = greenwich_of t })) None
 
 -- document 01's refusal number of each answer, 0 where there are days or an angle, and what comes back: with a refusal nothing
-unfoldable pub days_refusal : DayCount → ℕ
-days_refusal (days.Is d) = 0
-days_refusal days.Outside = 6
+unfoldable pub days_refusal : Option Days → ℕ
+days_refusal (Some d) = 0
+days_refusal None = 6
 
-unfoldable pub days_values : DayCount → List Float
-days_values (days.Is d) = d.0 ∷ []
-days_values days.Outside = []
+unfoldable pub days_values : Option Days → List Float
+days_values (Some d) = d.0 ∷ []
+days_values None = []
 
-unfoldable pub angle_refusal : Angle → ℕ
-angle_refusal (angle.Is a) = 0
-angle_refusal angle.Outside = 6
+unfoldable pub angle_refusal : Option Radians → ℕ
+angle_refusal (Some a) = 0
+angle_refusal None = 6
 
-unfoldable pub angle_values : Angle → List Float
-angle_values (angle.Is a) = a.0 ∷ []
-angle_values angle.Outside = []
+unfoldable pub angle_values : Option Radians → List Float
+angle_values (Some a) = a.0 ∷ []
+angle_values None = []

@@ -125,13 +125,7 @@ fn power_of_ten(k: u64) -> u64
     ensures value { result ≡ 10 ^ k }
     ensures lower_bound { (1 ≤ result) × (result ≤ 1000000000000000) }
 {
-    let mut p = 1;
-    let mut i = 0;
-    while i < k {
-        p *= 10;
-        i += 1;
-    }
-    p
+    10u64.pow(k as u32)
 }
 
 // A decimal field: its whole number divided by its power of ten, rounded once. NaN beyond 15 places.
@@ -203,25 +197,12 @@ pub fn to_radians(x: Degrees) -> Radians
 
 // ---- The calendar, 1957 January 1 to 2057 January 1.
 
-// What a year and a day of the year denote.
-#[derive(Clone, Copy)]
-pub enum Epoch {
-    At(Instant),
-    Outside,
-}
-
 // Year, day of the year from 1, microseconds of that day.
 #[derive(Clone, Copy)]
 pub struct Date {
     pub year: u64,
     pub day: u64,
     pub micros: u64,
-}
-
-#[derive(Clone, Copy)]
-pub enum Dated {
-    On(Date),
-    Outside,
 }
 
 // Whether an instant lies before 2057 January 1, 0h: the one place that says so.
@@ -258,26 +239,27 @@ pub fn day_in_range(year: u64, day: u64) -> bool
     (100000000 <= day) & (day < (last_day(year) + 1) * 100000000)
 }
 
-// The instant of an epoch: its year and its day of the year, in units of 10 ^ -8 day.
-pub fn epoch_instant(year: u64, day: u64) -> Epoch
+// The instant of an epoch: its year and its day of the year, in units of 10 ^ -8 day. None is refusal 6:
+// it lies outside 1957-2056.
+pub fn epoch_instant(year: u64, day: u64) -> Option<Instant>
     ensures { result ≡ epoch_of year day }
 {
     if year < 1957 {
-        return Epoch::Outside;
+        return None;
     }
     if year > 2056 {
-        return Epoch::Outside;
+        return None;
     }
     if day_in_range(year, day) {
         let before = days_before(year - 1957) * 86400000000;
-        Epoch::At(Instant(before + (day - 100000000) * 864))
+        Some(Instant(before + (day - 100000000) * 864))
     } else {
-        Epoch::Outside
+        None
     }
 }
 
-// An instant taken apart.
-pub fn date_of(t: Instant) -> Dated
+// An instant taken apart. None is refusal 6, here and below: an instant given is outside 1957-2056.
+pub fn date_of(t: Instant) -> Option<Date>
     ensures { result ≡ date_of t.0 }
 {
     let x = t.0;
@@ -285,95 +267,73 @@ pub fn date_of(t: Instant) -> Dated
         let days = x / 86400000000;
         let k = (4 * days + 3) / 1461;
         let before = days_before(k);
-        Dated::On(Date {
+        Some(Date {
             year: 1957 + k,
             day: days - before + 1,
             micros: x % 86400000000,
         })
     } else {
-        Dated::Outside
+        None
     }
 }
 
 // ---- Moving an instant.
 
+// Why an instant is not moved.
 #[derive(Clone, Copy)]
-pub enum Moved {
-    To(Instant),
+pub enum MoveRefusal {
     // Refusal 9: the span is beyond 3,652 days.
     TooFar,
     // Refusal 6: the instant given or reached is outside 1957-2056.
     Outside,
 }
 
-fn land(t: u64) -> Moved
+fn land(t: u64) -> Result<Instant, MoveRefusal>
     ensures { result ≡ landed t }
 {
     if in_calendar(t) {
-        Moved::To(Instant(t))
+        Ok(Instant(t))
     } else {
-        Moved::Outside
+        Err(MoveRefusal::Outside)
     }
 }
 
-pub fn move_by(t: Instant, span: Microseconds) -> Moved
+pub fn move_by(t: Instant, span: Microseconds) -> Result<Instant, MoveRefusal>
     ensures { result ≡ move_of t.0 span.0 }
 {
     let x = t.0;
     let s = span.0;
     let d = distance(span);
     if d > 315532800000000 {
-        return Moved::TooFar;
+        return Err(MoveRefusal::TooFar);
     }
     if !in_calendar(x) {
-        return Moved::Outside;
+        return Err(MoveRefusal::Outside);
     }
     if s < 0 {
         if d <= x {
             return land(x - d);
         }
-        return Moved::Outside;
+        return Err(MoveRefusal::Outside);
     }
     land(x + d)
 }
 
 // ---- Time since an epoch.
 
-#[derive(Clone, Copy)]
-pub enum Elapsed {
-    Is(Microseconds),
-    // Refusal 6: an instant given is outside 1957-2056.
-    Outside,
-}
-
 // How far t lies from an epoch: negative where it comes before.
-pub fn since(t: Instant, epoch: Instant) -> Elapsed
+pub fn since(t: Instant, epoch: Instant) -> Option<Microseconds>
     ensures { result ≡ since_of t.0 epoch.0 }
 {
     let x = t.0;
     let e = epoch.0;
     if !(in_calendar(x) & in_calendar(e)) {
-        return Elapsed::Outside;
+        return None;
     }
-    Elapsed::Is(Microseconds(x as i64 - e as i64))
+    Some(Microseconds(x as i64 - e as i64))
 }
 
 // ---- Days and the Greenwich angle.
-
-// A count of days at an instant.
-#[derive(Clone, Copy)]
-pub enum DayCount {
-    Is(Days),
-    // Refusal 6: the instant is outside 1957-2056.
-    Outside,
-}
-
-#[derive(Clone, Copy)]
-pub enum Angle {
-    Is(Radians),
-    // Refusal 6: the instant is outside 1957-2056.
-    Outside,
-}
 
 fn days_at(t: u64) -> f64
     ensures { result ≡ epoch_days_of t }
@@ -382,14 +342,14 @@ fn days_at(t: u64) -> f64
 }
 
 // Days since 1949 December 31, 0h, as 002's `epoch`.
-pub fn epoch_days(t: Instant) -> DayCount
+pub fn epoch_days(t: Instant) -> Option<Days>
     ensures { result ≡ epoch_days_at t.0 }
 {
     let x = t.0;
     if in_calendar(x) {
-        return DayCount::Is(Days(days_at(x)));
+        return Some(Days(days_at(x)));
     }
-    DayCount::Outside
+    None
 }
 
 fn julian_at(t: u64) -> f64
@@ -398,14 +358,14 @@ fn julian_at(t: u64) -> f64
     days_at(t) + 2433281.5
 }
 
-pub fn julian_date(t: Instant) -> DayCount
+pub fn julian_date(t: Instant) -> Option<Days>
     ensures { result ≡ julian_at t.0 }
 {
     let x = t.0;
     if in_calendar(x) {
-        return DayCount::Is(Days(julian_at(x)));
+        return Some(Days(julian_at(x)));
     }
-    DayCount::Outside
+    None
 }
 
 fn sidereal_seconds(tut1: f64) -> f64
@@ -436,12 +396,12 @@ fn gstime(jdut1: f64) -> f64
 }
 
 // The Greenwich angle at an instant, UT1 taken as UTC.
-pub fn greenwich(t: Instant) -> Angle
+pub fn greenwich(t: Instant) -> Option<Radians>
     ensures { result ≡ greenwich_at t.0 }
 {
     let x = t.0;
     if in_calendar(x) {
-        return Angle::Is(Radians(gstime(julian_at(x))));
+        return Some(Radians(gstime(julian_at(x))));
     }
-    Angle::Outside
+    None
 }

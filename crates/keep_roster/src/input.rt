@@ -8,9 +8,10 @@ use line_input::{Input, whole_in};
 use pair_input::next_step;
 use pair_lines::put_heading;
 use pair_steps::{Pairs, Step, What, more};
-use roster_calls::Lodging;
+use roster_calls::LodgingRefusal;
 use roster_file::lodge_in;
 use roster_words::{put_lodging, put_total};
+use streams::print_room;
 
 #[derive(Clone, Copy)]
 pub(crate) struct Tally {
@@ -18,15 +19,12 @@ pub(crate) struct Tally {
     pub lodged: u64,
 }
 
-fn is_lodged(answer: Lodging) -> bool
+fn is_lodged(answer: Result<(), LodgingRefusal>) -> bool
     ensures { result ≡ is_lodged answer }
 {
     match answer {
-        Lodging::Lodged => true,
-        Lodging::Unread(_) => false,
-        Lodging::NoRoster => false,
-        Lodging::Older => false,
-        Lodging::Full => false,
+        Ok(()) => true,
+        Err(_) => false,
     }
 }
 
@@ -50,7 +48,7 @@ fn put_told(
     out: &mut [u8],
     first: u64,
     second: u64,
-    answer: Lodging,
+    answer: Result<(), LodgingRefusal>,
     line1: &[u8],
     line2: &[u8],
 ) -> usize
@@ -58,15 +56,6 @@ fn put_told(
 {
     let p = put_heading(out, 0, first, second);
     put_lodging(out, p, answer, line1, line2)
-}
-
-// The first bytes of a room.
-pub(crate) fn print_text(rt: HostRuntime, failed: &mut bool, out: &[u8], n: usize)
-    ensures { failed.old ≡ true → failed.new ≡ true }
-{
-    if n <= out.len() {
-        streams::print(rt, failed, &out[0..n]);
-    }
 }
 
 // One pair lodged, and told. An answer with its heading has 600 bytes at most.
@@ -85,7 +74,7 @@ fn take_pair(
     let answer = lodge_in(rt, failed, name, line1, line2);
     let mut out = [0u8; 1024];
     let n = put_told(&mut out, first, second, answer, line1, line2);
-    print_text(rt, failed, &out, n);
+    print_room(rt, failed, &out, n);
     counted(t, is_lodged(answer))
 }
 
@@ -120,7 +109,7 @@ fn take_step(
             )
         }
         What::Said(n) => {
-            print_text(rt, failed, out, n);
+            print_room(rt, failed, out, n);
             t
         }
         What::Over => t,
@@ -132,11 +121,10 @@ fn print_total(rt: HostRuntime, failed: &mut bool, lines: u64, t: Tally)
 {
     let mut out = [0u8; 128];
     let n = put_total(&mut out, 0, lines, t.pairs, t.lodged);
-    print_text(rt, failed, &out, n);
+    print_room(rt, failed, &out, n);
 }
 
-// A proved loop has to end, and nothing says that the input does. So it counts its turns down, from a
-// number that no run uses up.
+// A proved loop has to end, and nothing says that the input does: no run uses up so many turns.
 pub(crate) fn lodge_text(rt: HostRuntime, failed: &mut bool, name: &[u8])
     ensures { failed.old ≡ true → failed.new ≡ true }
 {
@@ -150,8 +138,7 @@ pub(crate) fn lodge_text(rt: HostRuntime, failed: &mut bool, name: &[u8])
         pairs: 0,
         lodged: 0,
     };
-    let mut turns = u64::MAX;
-    while turns > 0 {
+    for _ in 0..u64::MAX {
         let next = next_step(
             rt,
             failed,
@@ -171,6 +158,5 @@ pub(crate) fn lodge_text(rt: HostRuntime, failed: &mut bool, name: &[u8])
             return;
         }
         t = take_step(rt, failed, name, t, step, &line1, &line, &out);
-        turns -= 1;
     }
 }

@@ -8,11 +8,12 @@ mod input; // the pairs of a text lodged
 ghost use Rattle.std.specs.Prelude.{◌≤◌, length};
 
 use files::{argument, argument_count, read_file};
-use input::{lodge_text, print_text};
+use input::lodge_text;
 use kept_roster::put_kept;
 use roster_file::withdraw_in;
 use roster_words::{Command, command_of, put_withdrawal};
-use station_text::{Number, read_number};
+use station_text::read_number;
+use streams::print_room;
 
 fn tell(rt: HostRuntime, text: &[u8]) {
     streams::tell(rt, text);
@@ -29,17 +30,14 @@ fn withdraw_number(rt: HostRuntime, failed: &mut bool, name: &[u8], number: u64)
     let answer = withdraw_in(rt, failed, name, number);
     let mut out = [0u8; 128];
     let n = put_withdrawal(&mut out, 0, answer, number);
-    print_text(rt, failed, &out, n);
+    print_room(rt, failed, &out, n);
 }
 
 // The first bytes of a room that an argument takes: none where it is not there or has no room.
 fn argument_size(rt: HostRuntime, i: usize, room: &mut [u8]) -> usize
     ensures { result ≤ length room.new }
 {
-    match argument(rt, i, room) {
-        Ok(size) => size,
-        Err(_) => 0,
-    }
+    argument(rt, i, room).unwrap_or(0)
 }
 
 // The third argument is the number.
@@ -47,8 +45,8 @@ fn withdraw_argument(rt: HostRuntime, failed: &mut bool, name: &[u8]) {
     let mut word = [0u8; 4096];
     let n = argument_size(rt, 3, &mut word);
     match read_number(&word[..n]) {
-        Number::Is(number) => withdraw_number(rt, failed, name, number),
-        Number::Unread => tell(rt, b"the number to withdraw has digits and nothing else\n"),
+        Some(number) => withdraw_number(rt, failed, name, number),
+        None => tell(rt, b"the number to withdraw has digits and nothing else\n"),
     }
 }
 
@@ -58,7 +56,7 @@ fn list(rt: HostRuntime, failed: &mut bool, name: &[u8]) {
     let n = read_file(rt, failed, name, &mut roster);
     let mut out = [0u8; 4096];
     let size = put_kept(&mut out, 0, &roster[..n]);
-    print_text(rt, failed, &out, size);
+    print_room(rt, failed, &out, size);
 }
 
 fn obey(rt: HostRuntime, failed: &mut bool, name: &[u8], command: Command, count: usize) {

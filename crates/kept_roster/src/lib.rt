@@ -9,7 +9,7 @@ ghost use Rattle.roster.specs.Row.{roster_with};
 ghost use Rattle.roster_listing.specs.Text.{ages_text};
 ghost use Rattle.kept_roster.specs.Kept.{kept_lodging, kept_lodged, kept_withdrawal, kept_withdrawn};
 
-use roster_calls::{Lodging, Withdrawal, fill_row, lodge, withdraw};
+use roster_calls::{LodgingRefusal, WithdrawalRefusal, fill_row, lodge, withdraw};
 use roster_listing::put_by_age;
 
 // The row that goes with a roster; where the bytes are none, no row does, and the call refuses them.
@@ -17,12 +17,12 @@ fn row_of(roster: &[u8]) -> [u64; 64]
     ensures { roster_with roster.now result ≡ roster_of roster.now }
 {
     let mut row = [0u64; 64];
-    fill_row(roster, &mut row);
+    let _ = fill_row(roster, &mut row);
     row
 }
 
 // Lodges the pair of two lines. A refusal leaves the roster as it was.
-pub fn lodge_kept(roster: &mut [u8], line1: &[u8], line2: &[u8]) -> Lodging
+pub fn lodge_kept(roster: &mut [u8], line1: &[u8], line2: &[u8]) -> Result<(), LodgingRefusal>
     ensures { (result ≡ kept_lodging roster.old line1.now line2.now) × (roster.new ≡ kept_lodged roster.old line1.now line2.now) }
 {
     let mut row = row_of(roster);
@@ -30,7 +30,7 @@ pub fn lodge_kept(roster: &mut [u8], line1: &[u8], line2: &[u8]) -> Lodging
 }
 
 // Withdraws the pair of a number. A refusal leaves the roster as it was.
-pub fn withdraw_kept(roster: &mut [u8], number: u64) -> Withdrawal
+pub fn withdraw_kept(roster: &mut [u8], number: u64) -> Result<(), WithdrawalRefusal>
     ensures { (result ≡ kept_withdrawal roster.old number) × (roster.new ≡ kept_withdrawn roster.old number) }
 {
     let mut row = row_of(roster);

@@ -1,25 +1,35 @@
 // An award plan in lent memory checked, for C and Rust: what checking answers as one number.
 #![tactic(auto)]
 
-ghost use Rattle.std.specs.Prelude.{◌≡◌};
+ghost use Rattle.std.specs.Prelude.{◌≡◌, Err};
 ghost use Rattle.award.specs.Plan.{answer_of};
 ghost use Rattle.lent_award.specs.Answer.{award_answer, PlaceFits};
 
 use answers::answer;
-use award::{Answer, check_plan};
+use award::{AwardRefusal, check_plan};
 
-fn award_answer(checked: Answer) -> u64
+#[tactic(auto, unfolding(crate::specs::Answer::award_answer))]
+fn refused(why: AwardRefusal) -> u64
+    requires { PlaceFits (Err why) }
+    ensures { result ≡ award_answer (Err why) }
+{
+    match why {
+        AwardRefusal::TooMany => answer(18, 0, 0, 0),
+        AwardRefusal::Unsound(k) => answer(27, 0, k as u16, 0),
+        AwardRefusal::NoSuchOffer(i) => answer(28, 0, i as u16, 0),
+        AwardRefusal::NamedTwice(i) => answer(29, 0, i as u16, 0),
+        AwardRefusal::Clash(i) => answer(30, 0, i as u16, 0),
+        AwardRefusal::WrongTotal => answer(31, 0, 0, 0),
+    }
+}
+
+fn award_answer(checked: Result<(), AwardRefusal>) -> u64
     requires { PlaceFits checked }
     ensures { result ≡ award_answer checked }
 {
     match checked {
-        Answer::Accepted => answer(0, 0, 0, 0),
-        Answer::TooMany => answer(18, 0, 0, 0),
-        Answer::Unsound(k) => answer(27, 0, k as u16, 0),
-        Answer::NoSuchOffer(i) => answer(28, 0, i as u16, 0),
-        Answer::NamedTwice(i) => answer(29, 0, i as u16, 0),
-        Answer::Clash(i) => answer(30, 0, i as u16, 0),
-        Answer::WrongTotal => answer(31, 0, 0, 0),
+        Ok(()) => answer(0, 0, 0, 0),
+        Err(why) => refused(why),
     }
 }
 

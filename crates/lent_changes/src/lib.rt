@@ -7,7 +7,7 @@ ghost use Rattle.compare.specs.Compare.{compared_of, compared_over};
 ghost use Rattle.lent_changes.specs.Answer.{which_number, compared_answer, WrittenFits};
 
 use answers::answer;
-use compare::{Compared, Which, compare};
+use compare::{CompareRefusal, Which, compare};
 
 fn which_number(which: Which) -> u8
     ensures { result ≡ which_number which }
@@ -18,14 +18,15 @@ fn which_number(which: Which) -> u8
     }
 }
 
-fn compared_answer(compared: Compared) -> u64
+#[tactic(auto, unfolding(crate::specs::Answer::compared_answer))]
+fn compared_answer(compared: Result<usize, CompareRefusal>) -> u64
     requires { WrittenFits compared }
     ensures { result ≡ compared_answer compared }
 {
     match compared {
-        Compared::Written(n) => answer(0, 0, 0, n as u32),
-        Compared::NoRoster(which) => answer(22, which_number(which), 0, 0),
-        Compared::RoomTooShort => answer(17, 0, 0, 0),
+        Ok(n) => answer(0, 0, 0, n as u32),
+        Err(CompareRefusal::NoRoster(which)) => answer(22, which_number(which), 0, 0),
+        Err(CompareRefusal::RoomTooShort) => answer(17, 0, 0, 0),
     }
 }
 

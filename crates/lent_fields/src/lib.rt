@@ -9,8 +9,8 @@ ghost use Rattle.record_numbers.specs.Numbers.{judged_of};
 ghost use Rattle.lent_fields.specs.Fields.{form_answer, form_fields, cut_answer, meaning_answer};
 
 use answers::{answer, refusal_answer};
-use record_numbers::{Judged, judge_numbers, store_fields};
-use tle::{Form, Reading, read_form};
+use record_numbers::{judge_numbers, store_fields};
+use tle::{Record, Refusal, read_form};
 
 // The form of a pair: its fields, in range or not, as 22 whole numbers at the front of `fields` (crate
 // record_numbers).
@@ -18,19 +18,19 @@ pub fn form_answer(line1: &[u8], line2: &[u8], fields: &mut [i64]) -> u64
     ensures value { result ≡ form_answer (form_of line1.now line2.now) (length fields.old) }
     ensures fields_after { fields.new ≡ form_fields (form_of line1.now line2.now) fields.old }
 {
-    let form = read_form(line1, line2);
-    let Form::Fields(f) = form else {
-        return refusal_answer(form.refusal());
+    let f = match read_form(line1, line2) {
+        Ok(f) => f,
+        Err(why) => return refusal_answer(why),
     };
     answer(store_fields(f, fields), 0, 0, 0)
 }
 
-fn reading_answer(reading: Reading) -> u64
+fn reading_answer(reading: Result<Record, Refusal>) -> u64
     ensures { result ≡ cut_answer reading }
 {
     match reading {
-        Reading::Record(_) => answer(0, 0, 0, 0),
-        Reading::Refused(why) => refusal_answer(why),
+        Ok(_) => answer(0, 0, 0, 0),
+        Err(why) => refusal_answer(why),
     }
 }
 
@@ -40,7 +40,7 @@ pub fn meaning_answer(fields: &[i64]) -> u64
 {
     let judged = judge_numbers(fields);
     match judged {
-        Judged::Meaning(reading) => reading_answer(reading),
-        Judged::TooShort => answer(17, 0, 0, 0),
+        Some(reading) => reading_answer(reading),
+        None => answer(17, 0, 0, 0),
     }
 }

@@ -2,26 +2,26 @@
 // what is left in lent memory.
 #![tactic(auto)]
 
-ghost use Rattle.std.specs.Prelude.{◌≡◌, length};
+ghost use Rattle.std.specs.Prelude.{◌≡◌, length, Some};
 ghost use Rattle.instant.specs.Calendar.{date_of};
-ghost use Rattle.instant.specs.declared.Dated.TheVariants.{On};
 ghost use Rattle.instant.specs.Move.{move_of};
 ghost use Rattle.lent_instants.specs.Instants.{moved_answer, moved_put, instant_of, date_answer, date_over};
 
 use answers::answer;
-use instant::{Date, Dated, Epoch, Instant, Microseconds, Moved, date_of, epoch_instant, move_by};
+use instant::{Date, Instant, Microseconds, MoveRefusal, date_of, epoch_instant, move_by};
 
-fn put_moved(moved: Moved, out: &mut u64) -> u64
+#[tactic(auto, unfolding(crate::specs::Instants::moved_answer, crate::specs::Instants::moved_put))]
+fn put_moved(moved: Result<Instant, MoveRefusal>, out: &mut u64) -> u64
     ensures value { result ≡ moved_answer moved }
     ensures out_after { out.new ≡ moved_put moved out.old }
 {
     match moved {
-        Moved::To(t) => {
+        Ok(t) => {
             *out = t.0;
             answer(0, 0, 0, 0)
         }
-        Moved::TooFar => answer(9, 0, 0, 0),
-        Moved::Outside => answer(6, 0, 0, 0),
+        Err(MoveRefusal::TooFar) => answer(9, 0, 0, 0),
+        Err(MoveRefusal::Outside) => answer(6, 0, 0, 0),
     }
 }
 
@@ -34,18 +34,18 @@ pub fn move_answer(t: Instant, span: Microseconds, out: &mut u64) -> u64
 }
 
 // The instant of a date: that of the day's start, moved by the time of the day.
-pub fn instant_of(year: u64, day: u64, micros: u64) -> Moved
+pub fn instant_of(year: u64, day: u64, micros: u64) -> Result<Instant, MoveRefusal>
     ensures { result ≡ instant_of year day micros }
 {
     if day > 366 {
-        return Moved::Outside;
+        return Err(MoveRefusal::Outside);
     }
     if micros >= 86400000000 {
-        return Moved::Outside;
+        return Err(MoveRefusal::Outside);
     }
     match epoch_instant(year, day * 100000000) {
-        Epoch::At(t) => move_by(t, Microseconds(micros as i64)),
-        Epoch::Outside => Moved::Outside,
+        Some(t) => move_by(t, Microseconds(micros as i64)),
+        None => Err(MoveRefusal::Outside),
     }
 }
 
@@ -58,7 +58,7 @@ pub fn instant_answer(year: u64, day: u64, micros: u64, out: &mut u64) -> u64
 }
 
 fn put_date(d: Date, out: &mut [u64]) -> u64
-    ensures { (result ≡ date_answer (On d) (length out.old)) × (out.new ≡ date_over (On d) out.old) }
+    ensures { (result ≡ date_answer (Some d) (length out.old)) × (out.new ≡ date_over (Some d) out.old) }
 {
     if out.len() < 3 {
         return answer(17, 0, 0, 0);
@@ -74,7 +74,7 @@ pub fn date_answer(t: Instant, out: &mut [u64]) -> u64
     ensures { (result ≡ date_answer (date_of t.0) (length out.old)) × (out.new ≡ date_over (date_of t.0) out.old) }
 {
     match date_of(t) {
-        Dated::On(d) => put_date(d, out),
-        Dated::Outside => answer(6, 0, 0, 0),
+        Some(d) => put_date(d, out),
+        None => answer(6, 0, 0, 0),
     }
 }

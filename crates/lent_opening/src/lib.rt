@@ -7,9 +7,9 @@ ghost use Rattle.opening.specs.Opening.{open_of, opened, open_pair_of, number};
 ghost use Rattle.lent_opening.specs.Opening as O;
 
 use answers::{answer, refusal_answer};
-use opening::opening::{Opening, open};
+use opening::opening::open;
 use storing::store;
-use tle::{Form, Reading, Record, read_form, read_meaning};
+use tle::{Record, read_form, read_meaning};
 
 fn opening_answer(why: opening::opening::Refusal) -> u64
     ensures { result ≡ answer (number why) 0 0 0 }
@@ -25,8 +25,8 @@ pub fn open_record(r: Record, numbers: &mut [f64], marks: &mut [u32]) -> u64
     ensures marks_after { marks.new ≡ O.open_marks (opened (open_of r)) numbers.old marks.old }
 {
     match open(r) {
-        Opening::Opened(s) => answer(store(s, numbers, marks), 0, 0, 0),
-        Opening::Refused(why) => opening_answer(why),
+        Ok(s) => answer(store(s, numbers, marks), 0, 0, 0),
+        Err(why) => opening_answer(why),
     }
 }
 
@@ -36,12 +36,12 @@ pub fn open_held(line1: &[u8], line2: &[u8], numbers: &mut [f64], marks: &mut [u
     ensures numbers_after { numbers.new ≡ O.open_numbers (open_pair_of line1.now line2.now) numbers.old marks.old }
     ensures marks_after { marks.new ≡ O.open_marks (open_pair_of line1.now line2.now) numbers.old marks.old }
 {
-    let form = read_form(line1, line2);
-    let Form::Fields(fields) = form else {
-        return refusal_answer(form.refusal());
+    let fields = match read_form(line1, line2) {
+        Ok(fields) => fields,
+        Err(why) => return refusal_answer(why),
     };
     match read_meaning(fields) {
-        Reading::Record(r) => open_record(r, numbers, marks),
-        Reading::Refused(why) => refusal_answer(why),
+        Ok(r) => open_record(r, numbers, marks),
+        Err(why) => refusal_answer(why),
     }
 }

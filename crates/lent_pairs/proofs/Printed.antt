@@ -7,7 +7,7 @@ use native.Mathlib.Omega.{arith}
 use lib.Dec.{leb}
 use lib.ListN.{length}
 use Rattle.tle.specs.Read.{read_of}
-use Rattle.listing.specs.declared.Printed.TheVariants as printed
+use Rattle.std.specs.Prelude.{None, Some}
 use Rattle.listing.specs.Listing as T
 use Rattle.listing.proofs.Lengths.{reading_within}
 
@@ -15,11 +15,11 @@ absurd : {B : Type 0} → ⊥ → B
 absurd = elim [ ]
 
 -- at most 900 bytes are written
-counted : (b : Bool) (m n : ℕ) → cond b (printed.Written m) printed.RoomTooShort ≡ printed.Written n → m ≤ 900 → n ≤ 900
+counted : (b : Bool) (m n : ℕ) → cond b (Some m) None ≡ Some n → m ≤ 900 → n ≤ 900
 counted true m n e h = let k : m ≡ n = cc in omega arith
 counted false m n e h = let z : ◌≡◌ {A = ℕ} 0 1 = cc in absurd (omega arith)
 
-pub written_fits : (line1 line2 : List ℕ) (room n : ℕ) → T.answer (T.reading_text (read_of line1 line2)) room ≡ printed.Written n → n ≤ 900
+pub written_fits : (line1 line2 : List ℕ) (room n : ℕ) → T.answer (T.reading_text (read_of line1 line2)) room ≡ Some n → n ≤ 900
 unfolding T.answer
 written_fits line1 line2 room n e =
     let text = T.reading_text (read_of line1 line2) in

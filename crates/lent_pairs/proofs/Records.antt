@@ -10,7 +10,7 @@ use lib.ListN.{length, drop}
 use Rattle.tle.specs.Read.{read_of}
 use Rattle.tle.specs.declared.Line.TheVariants.{One, Two}
 use Rattle.tle.specs.declared.Record.{Record}
-use Rattle.tle.specs.declared.Reading.TheVariants as reading
+use Rattle.std.specs.Prelude.{Ok}
 use Rattle.tle.proofs.Accepted.{accepted_are_legal}
 use Rattle.tle_writer.specs.Write.{number_of, writing_of, written_over}
 use Rattle.record_numbers.specs.Numbers.{numbers_of, store_refusal, stored_over}
@@ -34,7 +34,7 @@ swapped true x y = refl
 swapped false x y = refl
 
 -- the record of accepted lines is never refused with 16
-module _ (line1 line2 : List ℕ) (r : Record) (e : read_of line1 line2 ≡ reading.Record r) where
+module _ (line1 line2 : List ℕ) (r : Record) (e : read_of line1 line2 ≡ Ok r) where
   pub accepted_refusal : (n : ℕ) → store_refusal r n ≡ cond (ltb n 22) 17 0
   unfolding store_refusal
   accepted_refusal n = rw (accepted_are_legal line1 line2 r e)

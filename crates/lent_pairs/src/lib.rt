@@ -14,24 +14,24 @@ ghost use Rattle.lent_pairs.specs.Records as C;
 ghost use Rattle.lent_pairs.specs.Roster.{lodging_answer, withdrawal_answer, filling_answer, UnreadFits};
 
 use answers::{answer, refusal_answer};
-use instant::Epoch;
-use listing::{Printed, print_pair};
-use record_numbers::{Given, record_of, store_record};
-use roster_calls::{Lodging, fill_row, lodge, withdraw};
-use tle::{Form, Line, Reading, Record, epoch, read_form, read_meaning};
-use tle_writer::fill_line;
+use instant::Instant;
+use listing::print_pair;
+use record_numbers::{GivenRefusal, record_of, store_record};
+use roster_calls::{LodgingRefusal, fill_row, filling_number, lodge, withdraw, withdrawal_number};
+use tle::{Line, Record, epoch, read_form, read_meaning};
+use tle_writer::{fill_line, writing_number};
 
 // Reads a pair: 0, or the refusal with its values.
 pub fn read_answer(line1: &[u8], line2: &[u8]) -> u64
     ensures { result ≡ P.reading_answer (read_of line1.now line2.now) }
 {
-    let form = read_form(line1, line2);
-    let Form::Fields(f) = form else {
-        return refusal_answer(form.refusal());
+    let f = match read_form(line1, line2) {
+        Ok(f) => f,
+        Err(why) => return refusal_answer(why),
     };
     match read_meaning(f) {
-        Reading::Record(_) => answer(0, 0, 0, 0),
-        Reading::Refused(why) => refusal_answer(why),
+        Ok(_) => answer(0, 0, 0, 0),
+        Err(why) => refusal_answer(why),
     }
 }
 
@@ -41,21 +41,21 @@ pub fn print_answer(line1: &[u8], line2: &[u8], out: &mut [u8]) -> u64
     ensures out_after { out.new ≡ fronted (T.reading_text (read_of line1.now line2.now)) out.old }
 {
     match print_pair(line1, line2, out) {
-        Printed::Written(n) => answer(0, 0, 0, n as u32),
-        Printed::RoomTooShort => answer(17, 0, 0, 0),
+        Some(n) => answer(0, 0, 0, n as u32),
+        None => answer(17, 0, 0, 0),
     }
 }
 
-fn put_instant(e: Epoch, micros: &mut u64) -> u64
+fn put_instant(e: Option<Instant>, micros: &mut u64) -> u64
     ensures value { result ≡ P.instant_answer e }
     ensures micros_after { micros.new ≡ P.instant_put e micros.old }
 {
     match e {
-        Epoch::At(t) => {
+        Some(t) => {
             *micros = t.0;
             answer(0, 0, 0, 0)
         }
-        Epoch::Outside => answer(6, 0, 0, 0),
+        None => answer(6, 0, 0, 0),
     }
 }
 
@@ -64,13 +64,13 @@ pub fn epoch_answer(line1: &[u8], line2: &[u8], micros: &mut u64) -> u64
     ensures value { result ≡ P.epoch_answer (read_of line1.now line2.now) }
     ensures micros_after { micros.new ≡ P.epoch_put (read_of line1.now line2.now) micros.old }
 {
-    let form = read_form(line1, line2);
-    let Form::Fields(f) = form else {
-        return refusal_answer(form.refusal());
+    let f = match read_form(line1, line2) {
+        Ok(f) => f,
+        Err(why) => return refusal_answer(why),
     };
     match read_meaning(f) {
-        Reading::Record(r) => put_instant(epoch(r), micros),
-        Reading::Refused(why) => refusal_answer(why),
+        Ok(r) => put_instant(epoch(r), micros),
+        Err(why) => refusal_answer(why),
     }
 }
 
@@ -79,13 +79,13 @@ pub fn record_answer(line1: &[u8], line2: &[u8], fields: &mut [i64]) -> u64
     ensures value { result ≡ C.record_answer (read_of line1.now line2.now) (length fields.old) }
     ensures fields_after { fields.new ≡ C.record_fields (read_of line1.now line2.now) fields.old }
 {
-    let form = read_form(line1, line2);
-    let Form::Fields(f) = form else {
-        return refusal_answer(form.refusal());
+    let f = match read_form(line1, line2) {
+        Ok(f) => f,
+        Err(why) => return refusal_answer(why),
     };
     match read_meaning(f) {
-        Reading::Record(r) => answer(store_record(r, fields), 0, 0, 0),
-        Reading::Refused(why) => refusal_answer(why),
+        Ok(r) => answer(store_record(r, fields), 0, 0, 0),
+        Err(why) => refusal_answer(why),
     }
 }
 
@@ -95,10 +95,10 @@ fn put_line(r: Record, line: u32, out: &mut [u8]) -> u8
     ensures out_after { out.new ≡ C.line_over r line out.old }
 {
     if line == 1 {
-        return fill_line(r, Line::One, out).number();
+        return writing_number(fill_line(r, Line::One, out));
     }
     if line == 2 {
-        return fill_line(r, Line::Two, out).number();
+        return writing_number(fill_line(r, Line::Two, out));
     }
     16
 }
@@ -114,28 +114,31 @@ fn line_answer(refusal: u8) -> u64
 }
 
 // Line 1 or 2 of the record whose numbers are at the front of `fields`, at the front of `out`.
+#[tactic(auto, unfolding(crate::specs::Records::write_answer, crate::specs::Records::write_out))]
 pub fn write_answer(fields: &[i64], line: u32, out: &mut [u8]) -> u64
     ensures value { result ≡ C.write_answer (given_of fields.now) line out.old }
     ensures out_after { out.new ≡ C.write_out (given_of fields.now) line out.old }
 {
     match record_of(fields) {
-        Given::Fields(r) => line_answer(put_line(r, line, out)),
-        Given::NoClass => answer(16, 0, 0, 0),
-        Given::TooShort => answer(17, 0, 0, 0),
+        Ok(r) => line_answer(put_line(r, line, out)),
+        Err(GivenRefusal::NoClass) => answer(16, 0, 0, 0),
+        Err(GivenRefusal::TooShort) => answer(17, 0, 0, 0),
     }
 }
 
 // A pair lodged, or its refusal with what comes back with it.
-fn lodging_answer(a: Lodging) -> u64
+fn lodging_answer(a: Result<(), LodgingRefusal>) -> u64
     requires { UnreadFits a }
     ensures { result ≡ lodging_answer a }
 {
     match a {
-        Lodging::Lodged => answer(0, 0, 0, 0),
-        Lodging::Unread(why) => refusal_answer(why),
-        Lodging::NoRoster => answer(22, 0, 0, 0),
-        Lodging::Older => answer(20, 0, 0, 0),
-        Lodging::Full => answer(19, 0, 0, 0),
+        Ok(()) => answer(0, 0, 0, 0),
+        Err(refusal) => match refusal {
+            LodgingRefusal::Unread(why) => refusal_answer(why),
+            LodgingRefusal::NoRoster => answer(22, 0, 0, 0),
+            LodgingRefusal::Older => answer(20, 0, 0, 0),
+            LodgingRefusal::Full => answer(19, 0, 0, 0),
+        },
     }
 }
 
@@ -154,7 +157,7 @@ pub fn withdraw_answer(roster: &mut [u8], row: &mut [u64], number: u64) -> u64
     ensures roster_after { roster.new ≡ withdrawn_over roster.old row.old number }
     ensures row_after { row.new ≡ withdrawn_row roster.old row.old number }
 {
-    withdraw(roster, row, number).number()
+    withdrawal_number(withdraw(roster, row, number))
 }
 
 // Fills the row of a roster that was kept without one, whatever the row held.
@@ -162,5 +165,5 @@ pub fn fill_answer(roster: &[u8], row: &mut [u64]) -> u64
     ensures value { result ≡ filling_answer (filling_of roster.now row.old) }
     ensures row_after { row.new ≡ filled_row roster.now row.old }
 {
-    fill_row(roster, row).number()
+    filling_number(fill_row(roster, row))
 }

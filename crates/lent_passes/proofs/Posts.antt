@@ -13,12 +13,9 @@ use Rattle.geodetic.specs.declared.Site.{Site}
 use Rattle.geodetic.specs.Geodetic.{on_earth, site_of}
 use Rattle.opening.specs.declared.opening.Satellite.{Satellite}
 use Rattle.horizon.specs.declared.Look.{Look}
-use Rattle.sightings.specs.declared.Sighting.{Sighting}
-use Rattle.sightings.specs.declared.Sighting.TheVariants as sighting
 use Rattle.sightings.specs.Sightings.{sighted_at}
 use Rattle.passes.specs.declared.Pass.{Pass}
-use Rattle.passes.specs.declared.Passing.{Passing}
-use Rattle.passes.specs.declared.Passing.TheVariants as passing
+use Rattle.std.specs.Prelude.{Err, Ok, Option, Result, Some}
 use Rattle.passes.specs.Passes.{pass_refusal, next_pass}
 use Rattle.pass_edges.proofs.Steps.{yes, no}
 use Rattle.requests.specs.Lists.{over}
@@ -76,15 +73,15 @@ module _ (n : ℕ) (ns : List Float) (ms : List ℕ) (room : ℕ) where
 
 -- ── a pass ──
 
-pub or_own : (k r : ℕ) → k ≡ r → (k ≡ 0 → ⊥) → passing.Refused k ≡ passing.Refused (or_room r)
-or_own k r e h = ap passing.Refused (no (eqb k 0) 17 k (ne_eqb k 0 h) ∙ ap or_room e)
+pub or_own : (k r : ℕ) → k ≡ r → (k ≡ 0 → ⊥) → ◌≡◌ {A = Result (Option Pass) ℕ} (Err k) (Err (or_room r))
+or_own k r e h = ap Err (no (eqb k 0) 17 k (ne_eqb k 0 h) ∙ ap or_room e)
 
-pub or_room_lem : (k r : ℕ) → k ≡ r → k ≡ 0 → passing.Refused 17 ≡ passing.Refused (or_room r)
-or_room_lem k r e h = ap passing.Refused (yes (eqb k 0) 17 k (eq-eqb k 0 h) ∙ ap or_room e)
+pub or_room_lem : (k r : ℕ) → k ≡ r → k ≡ 0 → ◌≡◌ {A = Result (Option Pass) ℕ} (Err 17) (Err (or_room r))
+or_room_lem k r e h = ap Err (yes (eqb k 0) 17 k (eq-eqb k 0 h) ∙ ap or_room e)
 
-module _ (ns : List Float) (ms : List ℕ) (v : List Float) (start step n room : ℕ) (g : Geodetic) (x : Float) (hg : g ≡ geodetic_of v) (hx : x ≡ least_of v) (p : Passing) where
-  abbrev refusing : Geodetic → Float → Passing
-  refusing g x = passing.Refused (or_room (pass_refusal g x step))
+module _ (ns : List Float) (ms : List ℕ) (v : List Float) (start step n room : ℕ) (g : Geodetic) (x : Float) (hg : g ≡ geodetic_of v) (hx : x ≡ least_of v) (p : Result (Option Pass) ℕ) where
+  abbrev refusing : Geodetic → Float → Result (Option Pass) ℕ
+  refusing g x = Err (or_room (pass_refusal g x step))
 
   pub pass_short : short 4 ns ms room ≡ true → p ≡ refusing g x → p ≡ passing_held ns ms v start step n room
   unfolding passing_held
@@ -101,11 +98,11 @@ module _ (ns : List Float) (ms : List ℕ) (v : List Float) (start step n room :
       ∙ no (short 4 ns ms room) (refusing (geodetic_of v) (least_of v)) (next_pass (satellite_of ns ms) (geodetic_of v) (least_of v) start step n) h
 
 -- a pass is found only where there is room for it
-found_room : (b : Bool) (r : ℕ) (y : Passing) (p : Pass) → cond b (passing.Refused r) y ≡ passing.Found p → b ≡ false
+found_room : (b : Bool) (r : ℕ) (y : Result (Option Pass) ℕ) (p : Pass) → cond b (Err r) y ≡ Ok (Some p) → b ≡ false
 found_room true r y p e = let z : ◌≡◌ {A = ℕ} 0 1 = cc in absurd (omega arith)
 found_room false r y p e = refl
 
-pub found_fits : (ns : List Float) (ms : List ℕ) (v : List Float) (start step n room : ℕ) (p : Pass) → passing_held ns ms v start step n room ≡ passing.Found p → 4 ≤ room
+pub found_fits : (ns : List Float) (ms : List ℕ) (v : List Float) (start step n room : ℕ) (p : Pass) → passing_held ns ms v start step n room ≡ Ok (Some p) → 4 ≤ room
 unfolding passing_held
 found_fits ns ms v start step n room p e = room_left 4 ns ms room (found_room (short 4 ns ms room) _ _ p e)
 
@@ -120,36 +117,36 @@ not_false true h = refl
 not_false false h = sym h
 
 module _ (ns : List Float) (ms : List ℕ) (v : List Float) (t room : ℕ) (g : Geodetic) (hg : g ≡ geodetic_of v) (b : Bool) (hb : b ≡ on_earth g) where
-  abbrev seen : Sighting
-  seen = cond (short 3 ns ms room) (sighting.Refused 17) (sighted_at (site_of (geodetic_of v)) (satellite_of ns ms) t)
+  abbrev seen : Result Look ℕ
+  seen = cond (short 3 ns ms room) (Err 17) (sighted_at (site_of (geodetic_of v)) (satellite_of ns ms) t)
 
   on : on_earth (geodetic_of v) ≡ b
   on = sym (hb ∙ ap on_earth hg)
 
-  pub no_station : b ≡ false → sighting.Refused 25 ≡ sighting_held ns ms v t room
+  pub no_station : b ≡ false → Err 25 ≡ sighting_held ns ms v t room
   unfolding sighting_held
-  no_station h = no (on_earth (geodetic_of v)) seen (sighting.Refused 25) (on ∙ h)
+  no_station h = no (on_earth (geodetic_of v)) seen (Err 25) (on ∙ h)
 
   station : b ≡ true → seen ≡ sighting_held ns ms v t room
   unfolding sighting_held
-  station h = yes (on_earth (geodetic_of v)) seen (sighting.Refused 25) (on ∙ h)
+  station h = yes (on_earth (geodetic_of v)) seen (Err 25) (on ∙ h)
 
-  pub look_short : b ≡ true → short 3 ns ms room ≡ true → sighting.Refused 17 ≡ sighting_held ns ms v t room
-  look_short h k = yes (short 3 ns ms room) (sighting.Refused 17) (sighted_at (site_of (geodetic_of v)) (satellite_of ns ms) t) k ∙ station h
+  pub look_short : b ≡ true → short 3 ns ms room ≡ true → Err 17 ≡ sighting_held ns ms v t room
+  look_short h k = yes (short 3 ns ms room) (Err 17) (sighted_at (site_of (geodetic_of v)) (satellite_of ns ms) t) k ∙ station h
 
   pub look_held : b ≡ true → short 3 ns ms room ≡ false → (s : Satellite) → s ≡ satellite_of ns ms → (site : Site) → site ≡ site_of g
-      → (x : Sighting) → x ≡ sighted_at site s t → x ≡ sighting_held ns ms v t room
+      → (x : Result Look ℕ) → x ≡ sighted_at site s t → x ≡ sighting_held ns ms v t room
   look_held h k s hs site hz x e =
       e ∙ ap (λ (z : Site). sighted_at z s t) (hz ∙ ap site_of hg)
       ∙ ap (λ (z : Satellite). sighted_at (site_of (geodetic_of v)) z t) hs
-      ∙ no (short 3 ns ms room) (sighting.Refused 17) (sighted_at (site_of (geodetic_of v)) (satellite_of ns ms) t) k
+      ∙ no (short 3 ns ms room) (Err 17) (sighted_at (site_of (geodetic_of v)) (satellite_of ns ms) t) k
       ∙ station h
 
-seen_room : (a b : Bool) (r q : ℕ) (y : Sighting) (l : Look) → cond a (cond b (sighting.Refused r) y) (sighting.Refused q) ≡ sighting.At l → b ≡ false
+seen_room : (a b : Bool) (r q : ℕ) (y : Result Look ℕ) (l : Look) → cond a (cond b (Err r) y) (Err q) ≡ Ok l → b ≡ false
 seen_room true true r q y l e = let z : ◌≡◌ {A = ℕ} 0 1 = cc in absurd (omega arith)
 seen_room true false r q y l e = refl
 seen_room false b r q y l e = let z : ◌≡◌ {A = ℕ} 0 1 = cc in absurd (omega arith)
 
-pub seen_fits : (ns : List Float) (ms : List ℕ) (v : List Float) (t room : ℕ) (l : Look) → sighting_held ns ms v t room ≡ sighting.At l → 3 ≤ room
+pub seen_fits : (ns : List Float) (ms : List ℕ) (v : List Float) (t room : ℕ) (l : Look) → sighting_held ns ms v t room ≡ Ok l → 3 ≤ room
 unfolding sighting_held
 seen_fits ns ms v t room l e = room_left 3 ns ms room (seen_room (on_earth (geodetic_of v)) (short 3 ns ms room) _ _ _ l e)

@@ -1,10 +1,9 @@
 -- The next pass of a satellite in memory that is lent: what `next_pass` gives for the satellite that lies there, as an answer and in the room for it.
 -- Definitions only.
-use Rattle.std.specs.Prelude.{ℕ, ◌+◌, ◌*◌, Bool, true, false, cond, ◌||◌, List, [], ◌∷◌, eqb, ltb, length, Float}
+use Rattle.std.specs.Prelude.{ℕ, ◌+◌, ◌*◌, Bool, true, false, cond, ◌||◌, List, [], ◌∷◌, eqb, ltb, length, Float, Err, None, Ok, Option, Result, Some}
 use Rattle.earth_fixed.specs.Frame.{at}
 use Rattle.geodetic.specs.declared.Geodetic.{Geodetic}
-use Rattle.passes.specs.declared.Passing.{Passing}
-use Rattle.passes.specs.declared.Passing.TheVariants as passing
+use Rattle.passes.specs.declared.Pass.{Pass}
 use Rattle.passes.specs.Passes.{pass_refusal, next_pass}
 use Rattle.storage.specs.Storage.{too_short, satellite_of}
 use Rattle.answers.specs.Answer.{answer}
@@ -26,10 +25,10 @@ abbrev pub or_room : ℕ → ℕ
 or_room r = cond (eqb r 0) 17 r
 
 -- what a call comes to, with a room for so many instants
-unfoldable pub passing_held : List Float → List ℕ → List Float → ℕ → ℕ → ℕ → ℕ → Passing
+unfoldable pub passing_held : List Float → List ℕ → List Float → ℕ → ℕ → ℕ → ℕ → Result (Option Pass) ℕ
 passing_held ns ms v start step samples room =
     cond (short 4 ns ms room)
-    (passing.Refused (or_room (pass_refusal (geodetic_of v) (least_of v) step)))
+    (Err (or_room (pass_refusal (geodetic_of v) (least_of v) step)))
     (next_pass (satellite_of ns ms) (geodetic_of v) (least_of v) start step samples)
 
 -- ── the answer, and the room afterwards ──
@@ -39,13 +38,13 @@ bit false = 0
 bit true = 1
 
 -- bit 16: there is a pass; 17: it was above at the first sample; 18: it was above at the last. 32-63: the samples left
-unfoldable pub pass_answer : Passing → ℕ
-pass_answer (passing.Found p) = answer 0 0 (1 + 2 * bit p.begun + 4 * bit p.still) p.left
-pass_answer passing.Nothing = answer 0 0 0 0
-pass_answer (passing.Refused r) = answer r 0 0 0
+unfoldable pub pass_answer : Result (Option Pass) ℕ → ℕ
+pass_answer (Ok (Some p)) = answer 0 0 (1 + 2 * bit p.begun + 4 * bit p.still) p.left
+pass_answer (Ok None) = answer 0 0 0 0
+pass_answer (Err r) = answer r 0 0 0
 
 -- at the front of the room: rise, highest point, set, and the instant where the next call goes on
-unfoldable pub pass_instants : Passing → List ℕ
-pass_instants (passing.Found p) = p.rise.0 ∷ p.highest.0 ∷ p.set.0 ∷ p.next.0 ∷ []
-pass_instants passing.Nothing = []
-pass_instants (passing.Refused r) = []
+unfoldable pub pass_instants : Result (Option Pass) ℕ → List ℕ
+pass_instants (Ok (Some p)) = p.rise.0 ∷ p.highest.0 ∷ p.set.0 ∷ p.next.0 ∷ []
+pass_instants (Ok None) = []
+pass_instants (Err r) = []

@@ -3,10 +3,8 @@
 // alone.
 #![tactic(auto)]
 
-ghost use Rattle.std.specs.Prelude.{◌≡◌, ◌≤◌, length};
-ghost use Rattle.passes.specs.declared.Passing.TheVariants as passing;
+ghost use Rattle.std.specs.Prelude.{◌≡◌, ◌≤◌, length, Err, Ok, Some};
 ghost use Rattle.passes.specs.Passes.{pass_refusal};
-ghost use Rattle.sightings.specs.declared.Sighting.TheVariants as sighting;
 ghost use Rattle.requests.specs.Lists.{over};
 ghost use Rattle.lent_passes.specs.Passes as P;
 ghost use Rattle.lent_passes.specs.Looks as L;
@@ -16,9 +14,9 @@ use geodetic::{Geodetic, Metres, on_earth, site_of};
 use horizon::Look;
 use instant::{Degrees, Instant};
 use lent_windows::element;
-use passes::{Pass, Passing, next_pass, pass_refusal};
-use sightings::{Sighting, sighted};
-use storage::{Loading, load};
+use passes::{Pass, next_pass, pass_refusal};
+use sightings::sighted;
+use storage::load;
 use windows::Seconds;
 
 // The first three elements of a lent station.
@@ -38,14 +36,14 @@ fn geodetic_of(station: &[f64]) -> Geodetic
 // ---- The next pass.
 
 // 25 or 26, or 17.
-fn short_call(g: Geodetic, least: Degrees, step: Seconds) -> Passing
-    ensures { result ≡ passing.Refused (P.or_room (pass_refusal g least.0 step.0)) }
+fn short_call(g: Geodetic, least: Degrees, step: Seconds) -> Result<Option<Pass>, u8>
+    ensures { result ≡ Err (P.or_room (pass_refusal g least.0 step.0)) }
 {
     let refusal = pass_refusal(g, least, step);
     if refusal != 0 {
-        return Passing::Refused(refusal);
+        return Err(refusal);
     }
-    Passing::Refused(17)
+    Err(17)
 }
 
 fn passing_held(
@@ -56,7 +54,7 @@ fn passing_held(
     step: u64,
     samples: u32,
     room: usize,
-) -> Passing
+) -> Result<Option<Pass>, u8>
     ensures { result ≡ P.passing_held numbers.now marks.now station.now start step samples room }
 {
     let g = geodetic_of(station);
@@ -65,30 +63,18 @@ fn passing_held(
         return short_call(g, Degrees(least), Seconds(step));
     }
     match load(numbers, marks) {
-        Loading::Loaded(s) => {
-            next_pass(s, g, Degrees(least), Instant(start), Seconds(step), samples)
-        }
-        Loading::RoomTooShort => short_call(g, Degrees(least), Seconds(step)),
+        Some(s) => { next_pass(s, g, Degrees(least), Instant(start), Seconds(step), samples) }
+        None => short_call(g, Degrees(least), Seconds(step)),
     }
-}
-
-fn bit(b: bool) -> u16
-    ensures value { result ≡ P.bit b }
-    ensures upper_bound { result ≤ 1 }
-{
-    if b {
-        return 1;
-    }
-    0
 }
 
 fn put_pass(p: Pass, out: &mut [u64]) -> u64
     requires { 4 ≤ length out.old }
-    ensures value { result ≡ P.pass_answer (passing.Found p) }
-    ensures out_after { out.new ≡ over (P.pass_instants (passing.Found p)) out.old }
+    ensures value { result ≡ P.pass_answer (Ok (Some p)) }
+    ensures out_after { out.new ≡ over (P.pass_instants (Ok (Some p))) out.old }
 {
-    let begun = bit(p.begun);
-    let still = bit(p.still);
+    let begun = u16::from(p.begun);
+    let still = u16::from(p.still);
     let rise = p.rise;
     let highest = p.highest;
     let set = p.set;
@@ -116,9 +102,11 @@ pub fn next_pass_held(
 {
     let room = pass.len();
     match passing_held(numbers, marks, station, start, step, samples, room) {
-        Passing::Found(p) => put_pass(p, pass),
-        Passing::Nothing => answer(0, 0, 0, 0),
-        Passing::Refused(n) => answer(n, 0, 0, 0),
+        Ok(found) => match found {
+            Some(p) => put_pass(p, pass),
+            None => answer(0, 0, 0, 0),
+        },
+        Err(n) => answer(n, 0, 0, 0),
     }
 }
 
@@ -130,26 +118,26 @@ fn sighting_held(
     station: &[f64],
     instant: u64,
     room: usize,
-) -> Sighting
+) -> Result<Look, u8>
     ensures { result ≡ L.sighting_held numbers.now marks.now station.now instant room }
 {
     let g = geodetic_of(station);
     if !on_earth(g) {
-        return Sighting::Refused(25);
+        return Err(25);
     }
     if room < 3 {
-        return Sighting::Refused(17);
+        return Err(17);
     }
     match load(numbers, marks) {
-        Loading::Loaded(s) => sighted(s, site_of(g), Instant(instant)),
-        Loading::RoomTooShort => Sighting::Refused(17),
+        Some(s) => sighted(s, site_of(g), Instant(instant)),
+        None => Err(17),
     }
 }
 
 fn put_look(look: Look, out: &mut [f64]) -> u64
     requires { 3 ≤ length out.old }
-    ensures value { result ≡ L.look_answer (sighting.At look) }
-    ensures out_after { out.new ≡ over (L.look_numbers (sighting.At look)) out.old }
+    ensures value { result ≡ L.look_answer (Ok look) }
+    ensures out_after { out.new ≡ over (L.look_numbers (Ok look)) out.old }
 {
     let azimuth = look.azimuth;
     let elevation = look.elevation;
@@ -173,7 +161,7 @@ pub fn look_held(
 {
     let room = look.len();
     match sighting_held(numbers, marks, station, instant, room) {
-        Sighting::At(l) => put_look(l, look),
-        Sighting::Refused(n) => answer(n, 0, 0, 0),
+        Ok(l) => put_look(l, look),
+        Err(n) => answer(n, 0, 0, 0),
     }
 }

@@ -7,24 +7,24 @@ use native.Mathlib.Omega.{arith}
 use lib.ListN.{length}
 use lib.Ieee.{Float}
 use Rattle.opening.specs.declared.opening.Satellite.{Satellite}
-use Rattle.storage.specs.declared.Loading.TheVariants.{Loaded, RoomTooShort}
+use Rattle.std.specs.Prelude.{None, Some}
 use Rattle.storage.specs.Storage.{too_short, satellite_of, loading_of}
 
 absurd : {B : Type 0} → ⊥ → B
 absurd = elim [ ]
 
-held : (b : Bool) (s t : Satellite) → cond b RoomTooShort (Loaded t) ≡ Loaded s → (b ≡ false) × (s ≡ t)
+held : (b : Bool) (s t : Satellite) → cond b None (Some t) ≡ Some s → (b ≡ false) × (s ≡ t)
 held true s t e = let z : ◌≡◌ {A = ℕ} 0 1 = cc in absurd (omega arith)
 held false s t e = (refl, cc)
 
-short : (b : Bool) (t : Satellite) → cond b RoomTooShort (Loaded t) ≡ RoomTooShort → b ≡ true
+short : (b : Bool) (t : Satellite) → cond b None (Some t) ≡ None → b ≡ true
 short true t e = refl
 short false t e = let z : ◌≡◌ {A = ℕ} 0 1 = cc in absurd (omega arith)
 
-pub loaded : (ns : List Float) (ms : List ℕ) (s : Satellite) → loading_of ns ms ≡ Loaded s → (too_short (length ns) (length ms) ≡ false) × (s ≡ satellite_of ns ms)
+pub loaded : (ns : List Float) (ms : List ℕ) (s : Satellite) → loading_of ns ms ≡ Some s → (too_short (length ns) (length ms) ≡ false) × (s ≡ satellite_of ns ms)
 unfolding loading_of
 loaded ns ms s e = held (too_short (length ns) (length ms)) s (satellite_of ns ms) e
 
-pub unloaded : (ns : List Float) (ms : List ℕ) → loading_of ns ms ≡ RoomTooShort → too_short (length ns) (length ms) ≡ true
+pub unloaded : (ns : List Float) (ms : List ℕ) → loading_of ns ms ≡ None → too_short (length ns) (length ms) ≡ true
 unfolding loading_of
 unloaded ns ms e = short (too_short (length ns) (length ms)) (satellite_of ns ms) e

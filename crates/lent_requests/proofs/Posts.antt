@@ -7,14 +7,13 @@ use lib.Dec.{eqb}
 use lib.IntN.{ℤ}
 use lib.ListN.{length}
 use lib.Ieee.{Float}
-use borrow.Author.Tests.{lt-ltb, le-ltb, eq-eqb, ne_eqb}
+use borrow.Author.Tests.{lt-ltb, le-ltb}
 use Rattle.opening.specs.declared.opening.Satellite.{Satellite}
-use Rattle.resonance.specs.declared.place.Place.{Place}
 use Rattle.requests.specs.declared.Answered.{Answered}
 use Rattle.requests.specs.declared.ListAnswer.{ListAnswer}
 use Rattle.requests.specs.Request.{answered}
 use Rattle.requests.specs.Lists as L
-use Rattle.storage.specs.Storage.{too_short, satellite_of, placed_numbers, placed_marks}
+use Rattle.storage.specs.Storage.{too_short, satellite_of}
 use Rattle.answers.specs.Answer.{answer}
 use Rattle.lent_requests.specs.Requests.{request_short, row_put, kept_numbers, kept_marks, Requested, RequestPost, list_number, saved_numbers, saved_marks, ListPost}
 
@@ -46,19 +45,6 @@ module _ (ns : List Float) (ms : List ℕ) (t : ℤ) (state : List Float) where
       full _ (rw (le-ltb _ _ h, l.0)) x _ r ns' ms' state' (e ∙ ap (answered s) i ∙ ap (λ z. answered z t) l.1)
 
 -- ── a list ──
-
-module _ (k : ℕ) (p : Place) (ns : List Float) (ms : List ℕ) where
-  pub nine : k ≡ 9 → (ns ≡ kept_numbers k p ns ms) × (ms ≡ kept_marks k p ns ms)
-  nine e = (rw (eq-eqb k 9 e), rw (eq-eqb k 9 e))
-
-  pub not_nine : {ns' : List Float} {ms' : List ℕ} → (k ≡ 9 → ⊥) → ns' ≡ placed_numbers p ns ms → ms' ≡ placed_marks p ns ms → (ns' ≡ kept_numbers k p ns ms) × (ms' ≡ kept_marks k p ns ms)
-  not_nine d hn hm = (rw (ne_eqb k 9 d) hn, rw (ne_eqb k 9 d) hm)
-
-  pub not_saved : (k ≡ 0 → ⊥) → (ns ≡ saved_numbers k p ns ms) × (ms ≡ saved_marks k p ns ms)
-  not_saved d = (rw (ne_eqb k 0 d), rw (ne_eqb k 0 d))
-
-  pub saved : {ns' : List Float} {ms' : List ℕ} → k ≡ 0 → ns' ≡ placed_numbers p ns ms → ms' ≡ placed_marks p ns ms → (ns' ≡ saved_numbers k p ns ms) × (ms' ≡ saved_marks k p ns ms)
-  saved e hn hm = (rw (eq-eqb k 0 e) hn, rw (eq-eqb k 0 e) hm)
 
 module _ (ns : List Float) (ms : List ℕ) (ts : List ℤ) (a : List ℕ) (b : List Float) (c : List ℕ) where
   abbrev Number : ℕ

@@ -7,11 +7,11 @@ ghost use Rattle.answers.specs.Answer.{answer};
 ghost use Rattle.lent_requests.specs.Requests as R;
 
 use answers::answer;
-use instant::Microseconds;
-use requests::{Answered, ListAnswer, request, request_list};
+use instant::{Microseconds, Strides};
+use requests::{Answered, request, request_list};
 use resonance::place::Place;
 use sgp4::Row;
-use storage::{Loading, load};
+use storage::load;
 use storing::store_place;
 
 // A row that is answered, at the front of a room.
@@ -34,10 +34,9 @@ fn keep_place(refusal: u8, place: Place, numbers: &mut [f64], marks: &mut [u32])
     ensures numbers_after { numbers.new ≡ R.kept_numbers refusal place numbers.old marks.old }
     ensures marks_after { marks.new ≡ R.kept_marks refusal place numbers.old marks.old }
 {
-    if refusal == 9 {
-        return;
+    if refusal != 9 {
+        let _ = store_place(place, numbers, marks);
     }
-    let _ = store_place(place, numbers, marks);
 }
 
 // The answer to one time; the position reached goes into the satellite's memory.
@@ -65,26 +64,29 @@ pub fn request_held(numbers: &mut [f64], marks: &mut [u32], time: i64, state: &m
         return answer(17, 0, 0, 0);
     }
     match load(numbers, marks) {
-        Loading::Loaded(s) => put_answer(request(s, Microseconds(time)), numbers, marks, state),
-        Loading::RoomTooShort => answer(17, 0, 0, 0),
+        Some(s) => put_answer(request(s, Microseconds(time)), numbers, marks, state),
+        None => answer(17, 0, 0, 0),
     }
 }
 
-// The answer to a list; the position reached goes into the satellite's memory.
-fn put_list(a: ListAnswer, numbers: &mut [f64], marks: &mut [u32]) -> u64
-    ensures value { result ≡ answer a.refusal 0 0 a.strides.0 }
-    ensures numbers_after { numbers.new ≡ R.saved_numbers a.refusal a.satellite.place numbers.old marks.old }
-    ensures marks_after { marks.new ≡ R.saved_marks a.refusal a.satellite.place numbers.old marks.old }
+// The answer to a list, or to a call for windows with how many there are; the position reached goes into
+// the satellite's memory.
+pub fn put_saved(
+    refusal: u8,
+    count: u16,
+    strides: Strides,
+    place: Place,
+    numbers: &mut [f64],
+    marks: &mut [u32],
+) -> u64
+    ensures value { result ≡ answer refusal 0 count strides.0 }
+    ensures numbers_after { numbers.new ≡ R.saved_numbers refusal place numbers.old marks.old }
+    ensures marks_after { marks.new ≡ R.saved_marks refusal place numbers.old marks.old }
 {
-    let refusal = a.refusal;
-    let strides = a.strides;
-    let satellite = a.satellite;
-    let place = satellite.place;
-    if refusal != 0 {
-        return answer(refusal, 0, 0, strides.0);
+    if refusal == 0 {
+        let _ = store_place(place, numbers, marks);
     }
-    let _ = store_place(place, numbers, marks);
-    answer(refusal, 0, 0, strides.0)
+    answer(refusal, 0, count, strides.0)
 }
 
 // Asks the satellite in memory for a list of times.
@@ -102,10 +104,10 @@ pub fn request_list_held(
         return answer(18, 0, 0, 0);
     }
     match load(numbers, marks) {
-        Loading::Loaded(s) => {
+        Some(s) => {
             let a = request_list(s, times, refusals, states, rounds);
-            put_list(a, numbers, marks)
+            put_saved(a.refusal, 0, a.strides, a.satellite.place, numbers, marks)
         }
-        Loading::RoomTooShort => answer(17, 0, 0, 0),
+        None => answer(17, 0, 0, 0),
     }
 }

@@ -1,11 +1,11 @@
 -- What a call leaves in memory, from what the calls inside it do.
-use Prim.Native.Nat.{ℕ, zero, suc, ◌%◌, ◌≤◌}
+use Prim.Native.Nat.{ℕ, ◌%◌, ◌≤◌}
 use mathlib.Core.Path.{◌≡◌, refl, sym, ap, ◌∙◌, subst}
 use mathlib.Core.Bool.{Bool, true, false}
-use mathlib.Core.List.{List, [], ◌∷◌}
+use mathlib.Core.List.{List}
 use native.Mathlib.Omega.{arith}
-use lib.ListN.{length, get_or}
-use lib.Ieee.{Float, nan}
+use lib.ListN.{length}
+use lib.Ieee.{Float}
 use Rattle.opening.specs.declared.opening.Satellite.{Satellite}
 use Rattle.requests.specs.Lists.{rows_from}
 use Rattle.windows.specs.declared.WindowsAnswer.{WindowsAnswer}
@@ -19,12 +19,6 @@ use Rattle.lent_windows.specs.Windows.{station_of, windows_answer, Windowed, Win
 
 absurd : {B : Type 0} → ⊥ → B
 absurd = elim [ ]
-
--- past the end of a station there is no number
-pub past : (v : List Float) (i : ℕ) → length v ≤ i → nan ≡ get_or v i nan
-past [] i h = refl
-past (x ∷ v) zero h = absurd (omega arith)
-past (x ∷ v) (suc i) h = past v i (omega arith)
 
 module _ (ns : List Float) (ms : List ℕ) (p : List Float) (start step samples : ℕ) (a b : List ℕ) where
   refused : (t : Bool) → t ≡ true → (r : ℕ) → r ≡ answer (refusal_of (station_of p) step samples true) 0 0 0

@@ -66,7 +66,7 @@ fn finished(size: usize, found: bool) -> Next
 }
 
 // Reads on until a newline ends the line, which has `size` bytes so far. A proved loop has to end, and
-// nothing says that the input does. So it counts its turns down, from a number that no run uses up.
+// nothing says that the input does: no run uses up so many turns.
 fn read_on(
     rt: HostRuntime,
     failed: &mut bool,
@@ -78,8 +78,7 @@ fn read_on(
     ensures { Found failed.new size [] line.old buffer.new line.new result }
 {
     let mut size = size;
-    let mut turns = u64::MAX;
-    while turns > 0 {
+    for _ in 0..u64::MAX {
         let end = streams::read(rt, failed, buffer);
         if *failed {
             return finished(size, false);
@@ -92,18 +91,8 @@ fn read_on(
         if g.ended {
             return ended(g.next, end, size);
         }
-        turns -= 1;
     }
     finished(size, size > 0)
-}
-
-fn at_most(n: usize, most: usize) -> usize
-    ensures { result ≡ min n most }
-{
-    if n <= most {
-        return n;
-    }
-    most
 }
 
 // The next line, at the front of its room: what waits in the buffer, and what is read behind it.
@@ -123,7 +112,7 @@ pub fn next_line(
         return finished(0, false);
     }
     let at = input.at;
-    let end = at_most(input.end, buffer.len());
+    let end = input.end.min(buffer.len());
     let g = gather(line, 0, &buffer[..end], at);
     if g.ended {
         return ended(g.next, end, g.size);

@@ -17,13 +17,12 @@ use Rattle.tle.specs.declared.Line.TheVariants.{One, Two}
 use Rattle.tle.specs.declared.Record.{Record}
 use Rattle.tle.specs.declared.Refusal.{Refusal}
 use Rattle.tle.specs.declared.Refusal.TheVariants.{Length}
-use Rattle.tle.specs.declared.Verdict.{Verdict}
-use Rattle.tle.specs.declared.Verdict.TheVariants.{Lawful, Refused}
+use Rattle.std.specs.Prelude.{Err, Ok, Result}
 use Rattle.listing.specs.Listing.{reading_text, lines_text, pair_text}
 use Rattle.listing.specs.Claims.{FedPrintsWhole, SeventyDecide}
 
 -- a line of more than 69 bytes is refused, whatever they are
-long : (which : Line) (layout a : List ℕ) → 69 < length a → verdict_of which layout a ≡ Refused (Length which)
+long : (which : Line) (layout a : List ℕ) → 69 < length a → verdict_of which layout a ≡ Err (Length which)
 unfolding verdict_of
 long which layout a h = rw (ne_eqb (length a) 69 (λ e. omega arith))
 
@@ -31,9 +30,9 @@ shorter : (a : List ℕ) → 70 < length a → 69 < length (take 70 a)
 shorter a h = simp length-take (omega arith)
 
 -- where the second line is refused, no field counts
-no_fields : (v : Verdict) (why : Refusal) (r r' : Record) → ranged (formed (then v (Refused why)) r) ≡ ranged (formed (then v (Refused why)) r')
-no_fields Lawful why r r' = refl
-no_fields (Refused other) why r r' = refl
+no_fields : (v : Result (Unit {0}) Refusal) (why : Refusal) (r r' : Record) → ranged (formed (then v (Err why)) r) ≡ ranged (formed (then v (Err why)) r')
+no_fields (Ok tt) why r r' = refl
+no_fields (Err other) why r r' = refl
 
 first_kept : (a b : List ℕ) (t : Bool) → leb (length a) 70 ≡ t → read_of (take 70 a) b ≡ read_of a b
 unfolding read_of form_of pair_of

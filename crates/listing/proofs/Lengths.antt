@@ -16,10 +16,9 @@ use Rattle.tle.specs.declared.Designator.{Designator}
 use Rattle.tle.specs.declared.Designator.TheVariants.{Blank, Piece}
 use Rattle.tle.specs.declared.Scaled.{Scaled}
 use Rattle.tle.specs.declared.Record as tle
-use Rattle.tle.specs.declared.Reading.{Reading}
-use Rattle.tle.specs.declared.Reading.TheVariants.{Record, Refused}
-use Rattle.listing.specs.declared.Printed.{Printed}
-use Rattle.listing.specs.declared.Printed.TheVariants.{Written, RoomTooShort}
+use Rattle.std.specs.Prelude.{Err, None, Ok, Option, Result, Some}
+use Rattle.tle.specs.declared.Record.{Record}
+use Rattle.tle.specs.declared.Refusal.{Refusal}
 use Rattle.listing.specs.Listing.{before, trimmed, designator_text, epoch_text, scaled_text, count, fields1, fields2, record_text, reading_text, answer, Prints}
 use Rattle.listing.specs.Claims.{TextsFit}
 
@@ -88,26 +87,26 @@ fields2_within r =
 
 pub reading_within : TextsFit
 unfolding reading_text record_text
-reading_within (Record r) = (within (fields1_within r) (fields2_within r)).at_most
-reading_within (Refused why) = omega (arith, (count_within (bytes "refused ") (number_of why)).at_most)
+reading_within (Ok r) = (within (fields1_within r) (fields2_within r)).at_most
+reading_within (Err why) = omega (arith, (count_within (bytes "refused ") (number_of why)).at_most)
 
-pub reading_short : (x : Reading) → length (reading_text x) < most
+pub reading_short : (x : Result Record Refusal) → length (reading_text x) < most
 reading_short x = omega (arith, reading_within x)
 
 -- a run over any buffer tells the length, and a second over one that has room writes the text
 module _ (text o : List ℕ) (n : ℕ) (e : n ≡ length text) where
-  pub refused : length o < n → Prints text o o RoomTooShort
+  pub refused : length o < n → Prints text o o None
   unfolding answer
   refused h =
       let g : leb (length text) (length o) ≡ false = lt-leb (length text) (length o) (omega arith) in
       record { answered = simp g; stored = too_short text o (omega arith) }
 
-  pub written : {o' : List ℕ} {m : ℕ} → n ≤ length o → length text < most → Put o 0 text o' m → Prints text o o' (Written m)
+  pub written : {o' : List ℕ} {m : ℕ} → n ≤ length o → length text < most → Put o 0 text o' m → Prints text o o' (Some m)
   unfolding answer
   written h b p =
       let g : leb (length text) (length o) ≡ true = le-leb (length text) (length o) (omega arith) in
-      record { answered = simp g (ap Written (measured p b)); stored = has_room p b (omega arith) }
+      record { answered = simp g (ap Some (measured p b)); stored = has_room p b (omega arith) }
 
 -- the same text in other words
-pub prints_same : {s t o o' : List ℕ} {a : Printed} → s ≡ t → Prints s o o' a → Prints t o o' a
+pub prints_same : {s t o o' : List ℕ} {a : (Option ℕ)} → s ≡ t → Prints s o o' a → Prints t o o' a
 prints_same {s} {t} {o} {o'} {a} e p = subst (λ (x : List ℕ). Prints x o o' a) e p

@@ -1,5 +1,5 @@
 -- Document 01, "One pair, printed": its example, whole, and the cases beside it, each by computation.
-use Rattle.std.specs.Prelude.{◌≡◌, refl, List, [], ◌∷◌, ◌++◌, ℕ, take}
+use Rattle.std.specs.Prelude.{◌≡◌, refl, List, [], ◌∷◌, ◌++◌, ℕ, take, Err}
 use Prim.Native.String.{String}
 use Rattle.text.specs.Output.{bytes, spell, signed, glyph, places, line}
 use Rattle.text.specs.Input.{line_of, rest_of}
@@ -13,7 +13,6 @@ use Rattle.tle.specs.Catalogue.{catalogue_of}
 use Rattle.tle.specs.Read.{verdict_of, number_at, pair_of, class_of, letter, designator_at, year_of, ndot_at, scaled_at, day_at, motion_at, degrees_at, fields_of, form_of, ranges_of, read_of}
 use Rattle.tle.specs.declared.Designator.TheVariants.{Blank, Piece}
 use Rattle.tle.specs.declared.Field.TheVariants.{Day}
-use Rattle.tle.specs.declared.Reading.TheVariants.{Refused}
 use Rattle.tle.specs.declared.Refusal.TheVariants.{Range}
 use Rattle.listing.specs.Listing.{trimmed, designator_text, epoch_text, scaled_text, fields1, fields2, record_text, reading_text, pair_text}
 
@@ -57,7 +56,7 @@ letters : take 14 (pair_text (lines
 unfolding pair_text lines line_of rest_of read_of form_of pair_of verdict_of agreed sum fields_of ranges_of day_in_range last_day days_in number_at catalogue_of first_of position class_of designator_at year_of day_at ndot_at scaled_at degrees_at motion_at value_on digit_of tle-number.signed minus reading_text record_text fields1 fields2 scaled_text epoch_text designator_text trimmed letter line places glyph signed spell
 letters = refl
 
-refused_text : reading_text (Refused (Range Day)) ≡ bytes "refused 6\n"
+refused_text : reading_text (Err (Range Day)) ≡ bytes "refused 6\n"
 unfolding reading_text line spell
 refused_text = refl
 

@@ -1,5 +1,5 @@
 -- Document 01, "One pair, printed": the sixteen lines of a record, or `refused` and the number. For any record, an illegal one too.
-use Rattle.std.specs.Prelude.{ℕ, ◌*◌, ◌/◌, ◌%◌, ◌≡◌, List, [], ◌∷◌, ◌++◌, cond, eqb, leb, length}
+use Rattle.std.specs.Prelude.{ℕ, ◌*◌, ◌/◌, ◌%◌, ◌≡◌, List, [], ◌∷◌, ◌++◌, cond, eqb, leb, length, Err, None, Ok, Option, Result, Some}
 use Rattle.text.specs.Output.{bytes, decimal, signed, places, line, fronted}
 use Rattle.text.specs.Input.{line1, line2, held}
 use Rattle.text.specs.declared.input.Lines.{Lines}
@@ -9,10 +9,8 @@ use Rattle.tle.specs.declared.Designator.{Designator}
 use Rattle.tle.specs.declared.Designator.TheVariants.{Blank, Piece}
 use Rattle.tle.specs.declared.Scaled.{Scaled}
 use Rattle.tle.specs.declared.Record as tle
-use Rattle.tle.specs.declared.Reading.{Reading}
-use Rattle.tle.specs.declared.Reading.TheVariants.{Record, Refused}
-use Rattle.listing.specs.declared.Printed.{Printed}
-use Rattle.listing.specs.declared.Printed.TheVariants.{Written, RoomTooShort}
+use Rattle.tle.specs.declared.Record.{Record}
+use Rattle.tle.specs.declared.Refusal.{Refusal}
 
 -- a byte before a text that has lost its trailing blanks
 abbrev pub before : ℕ → List ℕ → List ℕ
@@ -73,9 +71,9 @@ unfoldable pub record_text : tle.Record → List ℕ
 record_text r = fields1 r ++ fields2 r
 
 -- a refusal prints `refused` and its number only
-unfoldable pub reading_text : Reading → List ℕ
-reading_text (Record r) = record_text r
-reading_text (Refused why) = count (bytes "refused ") (number_of why)
+unfoldable pub reading_text : Result Record Refusal → List ℕ
+reading_text (Ok r) = record_text r
+reading_text (Err why) = count (bytes "refused ") (number_of why)
 
 -- what is printed of the two lines that have been fed
 unfoldable pub lines_text : Lines → List ℕ
@@ -86,15 +84,15 @@ unfoldable pub pair_text : List ℕ → List ℕ
 pair_text input = reading_text (read_of (line1 input) (line2 input))
 
 -- how many bytes a text is, where the lent room holds them all; else refusal 17
-unfoldable pub answer : List ℕ → ℕ → Printed
-answer text room = cond (leb (length text) room) (Written (length text)) RoomTooShort
+unfoldable pub answer : List ℕ → ℕ → Option ℕ
+answer text room = cond (leb (length text) room) (Some (length text)) None
 
 -- document 01's number of an answer
-abbrev pub refusal_number : Printed → ℕ
-refusal_number (Written n) = 0
-refusal_number RoomTooShort = 17
+abbrev pub refusal_number : Option ℕ → ℕ
+refusal_number (Some n) = 0
+refusal_number None = 17
 
 -- What printing a text into a buffer gives and leaves there: the text at the front and the rest as it was, or all as it was.
-pub record Prints (text out after : List ℕ) (a : Printed) : Type 0 where
+pub record Prints (text out after : List ℕ) (a : Option ℕ) : Type 0 where
   pub answered : a ≡ answer text (length out)
   pub stored : after ≡ fronted text out

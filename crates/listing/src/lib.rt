@@ -8,7 +8,7 @@ ghost use Rattle.listing.specs.Listing.{trimmed, designator_text, epoch_text, sc
 ghost use Rattle.tle.specs.Read.{letter, read_of};
 
 use text::{Lines, put_byte, put_bytes, put_decimal, put_five_digits, put_line, put_signed};
-use tle::{Class, Designator, Form, Reading, Record, Scaled};
+use tle::{Class, Designator, Record, Refusal, Scaled};
 
 fn put_class(out: &mut [u8], at: usize, label: &[u8], class: Class) -> usize
     ensures { Put out.old at (line label.now (letter class ∷ [])) out.new result }
@@ -139,46 +139,39 @@ fn put_record(out: &mut [u8], at: usize, r: Record) -> usize
     put_fields2(out, p, r)
 }
 
-fn put_reading(out: &mut [u8], at: usize, reading: Reading) -> usize
+fn put_reading(out: &mut [u8], at: usize, reading: Result<Record, Refusal>) -> usize
     ensures { Put out.old at (reading_text reading) out.new result }
 {
     match reading {
-        Reading::Record(r) => put_record(out, at, r),
-        Reading::Refused(why) => {
+        Ok(r) => put_record(out, at, r),
+        Err(why) => {
             let n = why.number();
             put_line(out, at, b"refused ", n)
         }
     }
 }
 
-// What printing gives: how many bytes were written, or refusal 17.
-#[derive(Clone, Copy)]
-pub enum Printed {
-    Written(usize),
-    RoomTooShort,
-}
-
 // The text at the front of the buffer; nothing where it does not fit. The first run, over a buffer of
 // one byte, measures the text.
-pub fn print_reading(reading: Reading, out: &mut [u8]) -> Printed
+pub fn print_reading(reading: Result<Record, Refusal>, out: &mut [u8]) -> Option<usize>
     ensures { Prints (reading_text reading) out.old out.new result }
 {
     let mut measure = [0u8; 1];
     let size = put_reading(&mut measure, 0, reading);
     if out.len() < size {
-        return Printed::RoomTooShort;
+        return None;
     }
     let n = put_reading(out, 0, reading);
-    Printed::Written(n)
+    Some(n)
 }
 
 // What reading two lines gives, printed.
-pub fn print_pair(line1: &[u8], line2: &[u8], out: &mut [u8]) -> Printed
+pub fn print_pair(line1: &[u8], line2: &[u8], out: &mut [u8]) -> Option<usize>
     ensures { Prints (reading_text (read_of line1.now line2.now)) out.old out.new result }
 {
-    let form = tle::read_form(line1, line2);
-    let Form::Fields(fields) = form else {
-        return print_reading(Reading::Refused(form.refusal()), out);
+    let fields = match tle::read_form(line1, line2) {
+        Ok(fields) => fields,
+        Err(why) => return print_reading(Err(why), out),
     };
     print_reading(tle::read_meaning(fields), out)
 }
@@ -198,7 +191,7 @@ fn print_held(
     line2: [u8; 70],
     size2: usize,
     out: &mut [u8],
-) -> Printed
+) -> Option<usize>
     ensures { Prints (reading_text (read_of (take size1 line1) (take size2 line2))) out.old out.new result }
 {
     let n1 = kept_size(size1);
@@ -207,7 +200,7 @@ fn print_held(
 }
 
 // The pair in the two lines that have been fed, printed.
-pub fn print_lines(lines: Lines, out: &mut [u8]) -> Printed
+pub fn print_lines(lines: Lines, out: &mut [u8]) -> Option<usize>
     ensures { Prints (lines_text lines) out.old out.new result }
 {
     let first = lines.first;
@@ -218,7 +211,7 @@ pub fn print_lines(lines: Lines, out: &mut [u8]) -> Printed
 }
 
 // The pair in a whole input, printed.
-pub fn print_input(input: &[u8], out: &mut [u8]) -> Printed
+pub fn print_input(input: &[u8], out: &mut [u8]) -> Option<usize>
     ensures { Prints (pair_text input.now) out.old out.new result }
 {
     let lines = Lines::start();

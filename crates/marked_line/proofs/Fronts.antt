@@ -21,9 +21,6 @@ one_more s i h e p q =
     rw (add-one, take-suc s i 0 h, map-append visible (take i s) (get_or s i 0 ∷ []))
     (both p (same (ap (λ x. x ∷ []) e) q))
 
-pub all_shown : {o o' : List ℕ} {a b : ℕ} (s : List ℕ) (i : ℕ) → length s ≤ i → Put o a (map visible (take i s)) o' b → Put o a (map visible s) o' b
-all_shown s i h p = rw (take_all i s h) at p
-
 -- one repetition more
 pub again : {o o' o'' : List ℕ} {a b d : ℕ} (x i : ℕ) → Put o a (replicate i x) o' b → Put o' b (x ∷ []) o'' d → Put o a (replicate (i + 1) x) o'' d
 again x i p q = same (replicate-append-replicate i 1 x) (both p q)

@@ -25,10 +25,8 @@ fn put_visible(out: &mut [u8], at: usize, line: &[u8]) -> usize
     ensures { Put out.old at (map visible line.now) out.new result }
 {
     let mut next = at;
-    let mut i = 0;
-    while i < line.len() {
-        next = put_byte(out, next, visible(line[i]));
-        i += 1;
+    for &b in line {
+        next = put_byte(out, next, visible(b));
     }
     next
 }
@@ -37,10 +35,8 @@ fn put_repeated(out: &mut [u8], at: usize, byte: u8, n: usize) -> usize
     ensures { Put out.old at (replicate n byte) out.new result }
 {
     let mut next = at;
-    let mut i = 0;
-    while i < n {
+    for _ in 0..n {
         next = put_byte(out, next, byte);
-        i += 1;
     }
     next
 }
@@ -49,10 +45,7 @@ fn put_repeated(out: &mut [u8], at: usize, byte: u8, n: usize) -> usize
 pub fn at_most(n: usize, most: usize) -> usize
     ensures { (result ≡ min n most) × (result ≤ most) }
 {
-    if n <= most {
-        return n;
-    }
-    most
+    n.min(most)
 }
 
 fn put_front(out: &mut [u8], at: usize, line: &[u8], n: usize) -> usize

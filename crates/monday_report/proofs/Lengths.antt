@@ -9,8 +9,10 @@ use Rattle.text.proofs.Lengths.{Within, within, line_within}
 use Rattle.listing.proofs.Lengths.{epoch_within, count_within}
 use Rattle.report.specs.declared.Stamp.{Stamp}
 use Rattle.report.specs.declared.Refusals.{Refusals}
-use Rattle.report.specs.declared.Report.{Report}
-use Rattle.report.specs.declared.Report.TheVariants.{Counted, TooMany, Odd}
+use Rattle.std.specs.Prelude.{Err, Ok, Result}
+use Rattle.report.specs.declared.ReportRefusal.TheVariants as report_refusal
+use Rattle.report.specs.declared.Tally.{Tally}
+use Rattle.report.specs.declared.ReportRefusal.{ReportRefusal}
 use Rattle.report.specs.Report.{span_of}
 use Rattle.monday_report.specs.Print.{refusals_text, kinds_text, span_text, dashes, times_text, tally_text, report_text}
 use Rattle.monday_report.specs.Claims.{TextsFit}
@@ -43,12 +45,12 @@ times_within false a b = span_within a b
 
 pub report_within : TextsFit
 unfolding report_text tally_text times_text
-report_within (Counted t) =
+report_within (Ok t) =
     (within (count_within (bytes "accepted ") t.accepted)
     (within (refusals_within t.refused)
     (within (kinds_within t.near t.deep t.unopened) (times_within (eqb t.accepted 0) t.earliest t.latest)))).at_most
-report_within TooMany = omega (arith, (count_within (bytes "refused ") 23).at_most)
-report_within Odd = omega (arith, (count_within (bytes "refused ") 24).at_most)
+report_within (Err report_refusal.TooMany) = omega (arith, (count_within (bytes "refused ") 23).at_most)
+report_within (Err report_refusal.Odd) = omega (arith, (count_within (bytes "refused ") 24).at_most)
 
-pub report_short : (r : Report) → length (report_text r) < most
+pub report_short : (r : Result Tally ReportRefusal) → length (report_text r) < most
 report_short r = omega (arith, report_within r)

@@ -1,7 +1,7 @@
 -- Worked examples, each by computation.
-use Rattle.std.specs.Prelude.{ℕ, ◌≡◌, refl, List, [], ◌∷◌, ◌++◌}
+use Rattle.std.specs.Prelude.{ℕ, ◌≡◌, refl, List, [], ◌∷◌, ◌++◌, Err, Ok}
 use Rattle.text.specs.Output.{bytes, spell, line}
-use Rattle.report.specs.declared.Report.TheVariants.{Counted, TooMany}
+use Rattle.report.specs.declared.ReportRefusal.TheVariants as report_refusal
 use Rattle.report.specs.State.{no_tally}
 use Rattle.monday_report.specs.Print.{refusals_text, kinds_text, dashes, times_text, tally_text, report_text}
 
@@ -9,7 +9,7 @@ lines : List (List ℕ) → List ℕ
 lines [] = []
 lines (l ∷ ls) = l ++ (10 ∷ lines ls)
 
-nothing_printed : report_text (Counted no_tally) ≡ lines
+nothing_printed : report_text (Ok no_tally) ≡ lines
     (bytes "accepted 0"
     ∷ bytes "refused 1 0"
     ∷ bytes "refused 2 0"
@@ -27,6 +27,6 @@ nothing_printed : report_text (Counted no_tally) ≡ lines
 unfolding lines report_text tally_text refusals_text kinds_text times_text dashes line spell
 nothing_printed = refl
 
-too_many_printed : report_text TooMany ≡ lines (bytes "refused 23" ∷ [])
+too_many_printed : report_text (Err report_refusal.TooMany) ≡ lines (bytes "refused 23" ∷ [])
 unfolding lines report_text line spell
 too_many_printed = refl

@@ -1,12 +1,12 @@
 -- Document 02, wish 4: the report as thirteen lines, or `refused` and the number. Definitions only.
-use Rattle.std.specs.Prelude.{ℕ, List, ◌++◌, cond, eqb}
+use Rattle.std.specs.Prelude.{ℕ, List, ◌++◌, cond, eqb, Err, Ok, Result}
 use Rattle.text.specs.Output.{bytes, line}
 use Rattle.listing.specs.Listing.{count, epoch_text}
 use Rattle.report.specs.declared.Stamp.{Stamp}
 use Rattle.report.specs.declared.Refusals.{Refusals}
 use Rattle.report.specs.declared.Tally.{Tally}
-use Rattle.report.specs.declared.Report.{Report}
-use Rattle.report.specs.declared.Report.TheVariants.{Counted, TooMany, Odd}
+use Rattle.report.specs.declared.ReportRefusal.{ReportRefusal}
+use Rattle.report.specs.declared.ReportRefusal.TheVariants as report_refusal
 use Rattle.report.specs.Report.{span_of}
 
 unfoldable pub refusals_text : Refusals → List ℕ
@@ -42,7 +42,7 @@ tally_text t =
     ++ times_text t.accepted t.earliest t.latest))
 
 -- a refusal prints `refused` and its number only
-unfoldable pub report_text : Report → List ℕ
-report_text (Counted t) = tally_text t
-report_text TooMany = count (bytes "refused ") 23
-report_text Odd = count (bytes "refused ") 24
+unfoldable pub report_text : Result Tally ReportRefusal → List ℕ
+report_text (Ok t) = tally_text t
+report_text (Err report_refusal.TooMany) = count (bytes "refused ") 23
+report_text (Err report_refusal.Odd) = count (bytes "refused ") 24

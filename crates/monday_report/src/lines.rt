@@ -3,8 +3,8 @@ ghost use Rattle.text.specs.Output.{Put};
 ghost use Rattle.listing.specs.Listing.{Prints};
 ghost use Rattle.monday_report.specs.Print as P;
 
-use listing::{Printed, put_epoch};
-use report::{Refusals, Report, Stamp, Tally, span_of};
+use listing::put_epoch;
+use report::{Refusals, ReportRefusal, Stamp, Tally, span_of};
 use text::{put_bytes, put_line};
 
 fn put_refusals(out: &mut [u8], at: usize, r: Refusals) -> usize
@@ -57,26 +57,28 @@ fn put_tally(out: &mut [u8], at: usize, t: Tally) -> usize
     put_times(out, p, t.accepted, earliest, latest)
 }
 
-fn put_report(out: &mut [u8], at: usize, report: Report) -> usize
+fn put_report(out: &mut [u8], at: usize, report: Result<Tally, ReportRefusal>) -> usize
     ensures { Put out.old at (P.report_text report) out.new result }
 {
     match report {
-        Report::Counted(t) => put_tally(out, at, t),
-        Report::TooMany => put_line(out, at, b"refused ", 23),
-        Report::Odd => put_line(out, at, b"refused ", 24),
+        Ok(t) => put_tally(out, at, t),
+        Err(why) => match why {
+            ReportRefusal::TooMany => put_line(out, at, b"refused ", 23),
+            ReportRefusal::Odd => put_line(out, at, b"refused ", 24),
+        },
     }
 }
 
 // The text at the front of the buffer; nothing where it does not fit. The first run, over a buffer of
 // one byte, measures the text.
-pub(crate) fn print_report(report: Report, out: &mut [u8]) -> Printed
+pub(crate) fn print_report(report: Result<Tally, ReportRefusal>, out: &mut [u8]) -> Option<usize>
     ensures { Prints (P.report_text report) out.old out.new result }
 {
     let mut measure = [0u8; 1];
     let size = put_report(&mut measure, 0, report);
     if out.len() < size {
-        return Printed::RoomTooShort;
+        return None;
     }
     let n = put_report(out, 0, report);
-    Printed::Written(n)
+    Some(n)
 }

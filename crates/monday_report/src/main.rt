@@ -7,42 +7,20 @@ mod lines; // the report, printed
 ghost use Rattle.report.specs.State.{begun, More};
 
 use lines::print_report;
-use listing::Printed;
 use report::State;
 
-// The state after a read, and whether to go on.
-#[derive(Clone, Copy)]
-struct Turn {
-    state: State,
-    more: bool,
-}
-
-fn read_more(rt: HostRuntime, failed: &mut bool, state: State) -> Turn
-    ensures { More state result.state }
-{
-    let mut buffer = [0u8; 4096];
-    let n = streams::read(rt, failed, &mut buffer);
-    if n == 0 {
-        return Turn { state, more: false };
-    }
-    let state = state.feed(&buffer[..n]);
-    Turn { state, more: true }
-}
-
-// A proved loop has to end, and nothing says that the input does. So it counts its turns down, from a
-// number that no run uses up.
+// A proved loop has to end, and nothing says that the input does: no run uses up so many turns.
 fn read_all(rt: HostRuntime, failed: &mut bool) -> State
     ensures { More begun result }
 {
+    let mut buffer = [0u8; 4096];
     let mut state = State::start();
-    let mut turns = u64::MAX;
-    while turns > 0 {
-        let turn = read_more(rt, failed, state);
-        state = turn.state;
-        if !turn.more {
-            return state;
+    for _ in 0..u64::MAX {
+        let n = streams::read(rt, failed, &mut buffer);
+        if n == 0 {
+            break;
         }
-        turns -= 1;
+        state = state.feed(&buffer[..n]);
     }
     state
 }
@@ -53,10 +31,8 @@ fn main(rt: HostRuntime) {
     let state = read_all(rt, &mut failed);
     let mut out = [0u8; 4096];
     let printed = print_report(state.finish(), &mut out);
-    let Printed::Written(n) = printed else {
+    let Some(n) = printed else {
         return;
     };
-    if n <= 4096 {
-        streams::print(rt, &mut failed, &out[0..n]);
-    }
+    streams::print_room(rt, &mut failed, &out, n);
 }

@@ -12,8 +12,10 @@ use mir.Val.{to_z, of_z, SFits}
 use mir.Facts.{to_z-of_z}
 use Rattle.instant.specs.Calendar.{in_calendar}
 use Rattle.instant.specs.Move.{in_span, span_limit, landed, reached, move_of}
-use Rattle.instant.specs.declared.Moved.{Moved}
-use Rattle.instant.specs.declared.Moved.TheVariants.{To, TooFar, Outside}
+use Rattle.std.specs.Prelude.{Err, Ok, Result}
+use Rattle.instant.specs.declared.Instant.{Instant}
+use Rattle.instant.specs.declared.MoveRefusal.{MoveRefusal}
+use Rattle.instant.specs.declared.MoveRefusal.TheVariants as move_refusal
 use Rattle.instant.proofs.Move.{move_made}
 use Rattle.moves.specs.Moves.{to, then_by, Leads, Twice, Back}
 use Rattle.moves.specs.Claims.{Shifts, Refused}
@@ -42,7 +44,7 @@ made t x u l = rw (l.span, l.start) (reached_to t x u l.sum l.reached)
 
 -- ── and no other ──
 
-within : (b : Bool) (m : Moved) (u : ℕ) → cond b m TooFar ≡ to u → b ≡ true
+within : (b : Bool) (m : Result Instant MoveRefusal) (u : ℕ) → cond b m (Err move_refusal.TooFar) ≡ to u → b ≡ true
 within true m u h = refl
 within false m u h = let z : ◌≡◌ {A = ℕ} 0 1 = cc in absurd (omega arith)
 
@@ -59,7 +61,7 @@ unfolding in_span span_limit
 nothing t h = made t (pos 0) t (record { start = h; span = refl; sum = +ℤ_idr (pos t); reached = h })
 
 then : (t u v : ℕ) (x y : ℤ) → Leads t x u → Leads u y v → then_by (move_of t x) y ≡ to v
-then t u v x y l k = ap (λ (m : Moved). then_by m y) (made t x u l) ∙ made u y v k
+then t u v x y l k = ap (λ (m : Result Instant MoveRefusal). then_by m y) (made t x u l) ∙ made u y v k
 
 sum : (t u v : ℕ) (x y : ℤ) → Leads t x u → Leads u y v → in_span (x +ℤ y) ≡ true → move_of t (x +ℤ y) ≡ to v
 sum t u v x y l k h =
@@ -102,59 +104,59 @@ shifts = record {
 
 -- ── the answers of the two functions ──
 
-pub twice_post : (t : ℕ) (x y : ℤ) (r : Moved) → r ≡ then_by (move_of t x) y → Twice t x y r
+pub twice_post : (t : ℕ) (x y : ℤ) (r : Result Instant MoveRefusal) → r ≡ then_by (move_of t x) y → Twice t x y r
 twice_post t x y r e = record {
   is = e;
   once = λ u v l k h. (e ∙ then t u v x y l k ∙ sym (sum t u v x y l k h), e ∙ then t u v x y l k);
 }
 
-pub back_post : (t : ℕ) (x : ℤ) (r : Moved) → r ≡ then_by (move_of t x) (neg_ℤ x) → Back t x r
+pub back_post : (t : ℕ) (x : ℤ) (r : Result Instant MoveRefusal) → r ≡ then_by (move_of t x) (neg_ℤ x) → Back t x r
 back_post t x r e = record { is = e; home = λ u l. e ∙ then t u t x (neg_ℤ x) l (returns t u x l) }
 
 -- ── outside the premise ──
 
-too_far : (t : ℕ) (x : ℤ) → in_span x ≡ false → move_of t x ≡ TooFar
+too_far : (t : ℕ) (x : ℤ) → in_span x ≡ false → move_of t x ≡ Err move_refusal.TooFar
 unfolding move_of
 too_far t x h = rw h
 
 -- a move in span is made or is 6
-landed_not : (b : Bool) (n : ℕ) → cond b (to n) Outside ≡ TooFar → ◌≡◌ {A = ℕ} 0 1
+landed_not : (b : Bool) (n : ℕ) → cond b (to n) (Err move_refusal.Outside) ≡ Err move_refusal.TooFar → ◌≡◌ {A = ℕ} 0 1
 landed_not true n e = cc
 landed_not false n e = cc
 
-back_not : (b c : Bool) (n : ℕ) → cond b (cond c (to n) Outside) Outside ≡ TooFar → ◌≡◌ {A = ℕ} 0 1
+back_not : (b c : Bool) (n : ℕ) → cond b (cond c (to n) (Err move_refusal.Outside)) (Err move_refusal.Outside) ≡ Err move_refusal.TooFar → ◌≡◌ {A = ℕ} 0 1
 back_not true c n e = landed_not c n e
 back_not false c n e = cc
 
-reached_not : (t : ℕ) (x : ℤ) → reached t x ≡ TooFar → ◌≡◌ {A = ℕ} 0 1
+reached_not : (t : ℕ) (x : ℤ) → reached t x ≡ Err move_refusal.TooFar → ◌≡◌ {A = ℕ} 0 1
 unfolding reached landed
 reached_not t (pos n) e = landed_not (in_calendar (t + n)) (t + n) e
 reached_not t (negsuc n) e = back_not (leb (suc n) t) (in_calendar (t - suc n)) (t - suc n) e
 
-inside_not : (t : ℕ) (x : ℤ) (b : Bool) → cond b (reached t x) Outside ≡ TooFar → TooFar ≡ Outside
+inside_not : (t : ℕ) (x : ℤ) (b : Bool) → cond b (reached t x) (Err move_refusal.Outside) ≡ Err move_refusal.TooFar → ◌≡◌ {A = Result Instant MoveRefusal} (Err move_refusal.TooFar) (Err move_refusal.Outside)
 inside_not t x true e = let z = reached_not t x e in absurd (omega arith)
 inside_not t x false e = sym e
 
-no_instant : (t : ℕ) (x : ℤ) (m : Moved) → move_of t x ≡ m → in_span x ≡ true → ((u : ℕ) → Leads t x u → ⊥) → m ≡ Outside
+no_instant : (t : ℕ) (x : ℤ) (m : Result Instant MoveRefusal) → move_of t x ≡ m → in_span x ≡ true → ((u : ℕ) → Leads t x u → ⊥) → m ≡ Err move_refusal.Outside
 unfolding move_of
-no_instant t x (To u) e h g = absurd (g u.0 (leads t x u.0 e))
-no_instant t x TooFar e h g = inside_not t x (in_calendar t) (rw h at e)
-no_instant t x Outside e h g = refl
+no_instant t x (Ok u) e h g = absurd (g u.0 (leads t x u.0 e))
+no_instant t x (Err move_refusal.TooFar) e h g = inside_not t x (in_calendar t) (rw h at e)
+no_instant t x (Err move_refusal.Outside) e h g = refl
 
-outside : (t : ℕ) (x : ℤ) → in_span x ≡ true → ((u : ℕ) → Leads t x u → ⊥) → move_of t x ≡ Outside
+outside : (t : ℕ) (x : ℤ) → in_span x ≡ true → ((u : ℕ) → Leads t x u → ⊥) → move_of t x ≡ Err move_refusal.Outside
 outside t x h g = no_instant t x (move_of t x) refl h g
 
 never : {A : Bool} → A ≡ true → A ≡ false → ⊥
 never p q = let z : ◌≡◌ {A = ℕ} 0 1 = cc in omega arith
 
-after : (m n : Moved) (y : ℤ) → m ≡ n → then_by m y ≡ then_by n y
-after m n y e = ap (λ (m : Moved). then_by m y) e
+after : (m n : Result Instant MoveRefusal) (y : ℤ) → m ≡ n → then_by m y ≡ then_by n y
+after m n y e = ap (λ (m : Result Instant MoveRefusal). then_by m y) e
 
 pub refused : Refused
 refused = record {
-  first_too_far = λ t x y h. after (move_of t x) TooFar y (too_far t x h);
-  start_outside = λ t x y h g. after (move_of t x) Outside y (outside t x h (λ u l. never l.start g));
-  middle_outside = λ t x y h g. after (move_of t x) Outside y (outside t x h g);
+  first_too_far = λ t x y h. after (move_of t x) (Err move_refusal.TooFar) y (too_far t x h);
+  start_outside = λ t x y h g. after (move_of t x) (Err move_refusal.Outside) y (outside t x h (λ u l. never l.start g));
+  middle_outside = λ t x y h g. after (move_of t x) (Err move_refusal.Outside) y (outside t x h g);
   second_too_far = λ t u x y l h. after (move_of t x) (to u) y (made t x u l) ∙ too_far u y h;
   end_outside = λ t u x y l h g. after (move_of t x) (to u) y (made t x u l) ∙ outside u y h g;
 }

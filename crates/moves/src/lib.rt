@@ -6,20 +6,21 @@ ghost use Rattle.std.specs.Prelude.{◌≤◌, nat_abs, neg_ℤ, ◌≡◌};
 ghost use Rattle.instant.specs.Move.{move_of};
 ghost use Rattle.moves.specs.Moves.{Twice, Back};
 
-use instant::{Instant, Microseconds, Moved, move_by};
+use instant::{Instant, Microseconds, MoveRefusal, move_by};
 
 // Moves by one span and then by another. A refusal of the first move is the answer.
-pub fn move_twice(t: Instant, first: Microseconds, second: Microseconds) -> Moved
+pub fn move_twice(
+    t: Instant,
+    first: Microseconds,
+    second: Microseconds,
+) -> Result<Instant, MoveRefusal>
     ensures { Twice t.0 first.0 second.0 result }
 {
-    match move_by(t, first) {
-        Moved::To(middle) => move_by(middle, second),
-        Moved::TooFar => Moved::TooFar,
-        Moved::Outside => Moved::Outside,
-    }
+    let middle = move_by(t, first)?;
+    move_by(middle, second)
 }
 
-fn move_back(t: Instant, span: Microseconds) -> Moved
+fn move_back(t: Instant, span: Microseconds) -> Result<Instant, MoveRefusal>
     requires { nat_abs span.0 ≤ 315532800000000 }
     ensures { result ≡ move_of t.0 (neg_ℤ span.0) }
 {
@@ -28,12 +29,9 @@ fn move_back(t: Instant, span: Microseconds) -> Moved
 }
 
 // Moves by a span and then by as much the other way.
-pub fn move_there_and_back(t: Instant, span: Microseconds) -> Moved
+pub fn move_there_and_back(t: Instant, span: Microseconds) -> Result<Instant, MoveRefusal>
     ensures { Back t.0 span.0 result }
 {
-    match move_by(t, span) {
-        Moved::To(there) => move_back(there, span),
-        Moved::TooFar => Moved::TooFar,
-        Moved::Outside => Moved::Outside,
-    }
+    let there = move_by(t, span)?;
+    move_back(there, span)
 }

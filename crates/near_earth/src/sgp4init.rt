@@ -223,15 +223,7 @@ fn higher(isimp: bool, ao: f64, sfour: f64, tsi: f64, cc1: f64) -> Higher
 fn recovered(el: Elements, i: Initl) -> Elements
     ensures { result ≡ N.recovered el i }
 {
-    Elements {
-        bstar: el.bstar,
-        ecco: el.ecco,
-        argpo: el.argpo,
-        inclo: el.inclo,
-        mo: el.mo,
-        no: i.no,
-        nodeo: el.nodeo,
-    }
+    Elements { no: i.no, ..el }
 }
 
 // What sgp4 would compute at every time and always the same.

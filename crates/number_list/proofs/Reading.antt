@@ -7,12 +7,12 @@ use native.Mathlib.Omega.{arith}
 use native.Mathlib.Numerals.{add-one}
 use native.Mathlib.Nat.{add-suc, suc-add, zero-add}
 use lib.Dec.{leb, ltb, eqb}
-use lib.ListN.{length, drop, get_or, drop_of_length-le}
-use lib.Seq.{sets, drop-cons}
+use lib.ListN.{length, take, drop, get_or, drop_of_length-le}
+use lib.Seq.{sets, drop-cons, take_all}
 use borrow.Author.Tests.{eq-eqb, ne_eqb, le-leb, lt-leb, leb-true, leb-false}
 use Rattle.number_list.specs.declared.Scan.{Scan}
 use Rattle.number_list.specs.Numbers.{Found, bad, read_on, numbers_of, faulty, blanked, digited, stepped, stored, count_of, most_number}
-use Rattle.number_list.specs.declared.Numbers.TheVariants.{Read, Malformed}
+use Rattle.std.specs.Prelude.{None, Some}
 
 case : {P : Type 0} (b : Bool) → (b ≡ true → P) → (b ≡ false → P) → P
 case true f g = f refl
@@ -120,31 +120,31 @@ module _ (f : Found) (s : List ℕ) (o : List ℕ) (t : Scan) (out : List ℕ) (
     last : Todo f o t out []
     last = rw (drop_of_length-le s h) at d
 
-    pub read : (t.good && t.some) ≡ true → (Read (t.count + 1) ≡ count_of f) × (out' ≡ sets o 0 f.values)
+    pub read : (t.good && t.some) ≡ true → (Some (t.count + 1) ≡ count_of f) × (out' ≡ sets o 0 f.values)
     unfolding count_of
     read b =
         let a = and_true t.good t.some b in
         let z = done_by f o t out last a.0 a.1 in
         (rw (z.0, z.1), e ∙ z.2)
 
-    pub none : (t.good && t.some) ≡ false → (Malformed ≡ count_of f) × (out' ≡ sets o 0 f.values)
+    pub none : (t.good && t.some) ≡ false → (None ≡ count_of f) × (out' ≡ sets o 0 f.values)
     unfolding count_of
     none b =
         let z = bad_by f o t out last b in
         (rw z.0, e ∙ z.1)
 
 -- the cases of the first byte
-pub no_bytes : (s o : List ℕ) → length s ≡ 0 → (Read 0 ≡ count_of (numbers_of s)) × (o ≡ sets o 0 (numbers_of s).values)
+pub no_bytes : (s o : List ℕ) → length s ≡ 0 → (Some 0 ≡ count_of (numbers_of s)) × (o ≡ sets o 0 (numbers_of s).values)
 unfolding numbers_of count_of
 no_bytes [] o h = (refl, refl)
 no_bytes (b ∷ s) o h = absurd (omega arith)
 
-pub after_first : (s : List ℕ) → (length s ≡ 0 → ⊥) → get_or s 0 0 ≡ 32 → read_on false 0 (drop 1 s) ≡ numbers_of s
+pub after_first : (s : List ℕ) → (length s ≡ 0 → ⊥) → get_or s 0 0 ≡ 32 → read_on false 0 (take (length s - 1) (drop 1 s)) ≡ numbers_of s
 unfolding numbers_of
 after_first [] h e = absurd (h refl)
-after_first (b ∷ s) h e = rw (eq-eqb b 32 e)
+after_first (b ∷ s) h e = rw (take_all (suc (length s) - 1) s (omega arith), eq-eqb b 32 e)
 
-pub no_blank : (s o : List ℕ) → (length s ≡ 0 → ⊥) → (get_or s 0 0 ≡ 32 → ⊥) → (Malformed ≡ count_of (numbers_of s)) × (o ≡ sets o 0 (numbers_of s).values)
+pub no_blank : (s o : List ℕ) → (length s ≡ 0 → ⊥) → (get_or s 0 0 ≡ 32 → ⊥) → (None ≡ count_of (numbers_of s)) × (o ≡ sets o 0 (numbers_of s).values)
 unfolding numbers_of count_of
 no_blank [] o h e = absurd (h refl)
 no_blank (b ∷ s) o h e = rw (ne_eqb b 32 e) (refl, refl)

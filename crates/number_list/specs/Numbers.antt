@@ -1,8 +1,6 @@
 -- Whole numbers in a row: none or more decimals below 2 ^ 64, one blank before each. Definitions only.
-use Rattle.std.specs.Prelude.{ℕ, ◌+◌, ◌*◌, ◌-◌, List, [], ◌∷◌, Bool, true, false, cond, ◌&&◌, leb, ltb, eqb, length, set}
+use Rattle.std.specs.Prelude.{ℕ, ◌+◌, ◌*◌, ◌-◌, List, [], ◌∷◌, Bool, true, false, cond, ◌&&◌, leb, ltb, eqb, length, set, None, Option, Some}
 use Rattle.number_list.specs.declared.Scan.{Scan}
-use Rattle.number_list.specs.declared.Numbers as ns
-use Rattle.number_list.specs.declared.Numbers.TheVariants.{Read, Malformed}
 
 -- 2 ^ 64 - 1
 abbrev pub most_number : ℕ
@@ -35,8 +33,8 @@ unfoldable pub numbers_of : List ℕ → Found
 numbers_of [] = nothing
 numbers_of (b ∷ bs) = cond (eqb b 32) (read_on false 0 bs) bad
 
-unfoldable pub count_of : Found → ns.Numbers
-count_of f = cond f.good (Read (length f.values)) Malformed
+unfoldable pub count_of : Found → Option ℕ
+count_of f = cond f.good (Some (length f.values)) None
 
 -- the state of the loop after a fault; after a blank; after a digit; after any byte
 unfoldable pub faulty : Scan → Scan

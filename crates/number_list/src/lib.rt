@@ -104,17 +104,9 @@ fn store(t: Scan, b: u8, row: &mut [u64])
     }
 }
 
-// How many numbers there are, also those that the row has no place for.
-#[derive(Clone, Copy)]
-pub enum Numbers {
-    Read(usize),
-    Malformed,
-}
-
-// The numbers behind the first byte, which is a blank.
-fn read_on(s: &[u8], row: &mut [u64]) -> Numbers
-    requires { 1 ≤ length s.now }
-    ensures { (result ≡ count_of (read_on false 0 (drop 1 s.now))) × (row.new ≡ sets row.old 0 (read_on false 0 (drop 1 s.now)).values) }
+// The numbers behind the first blank.
+fn read_on(s: &[u8], row: &mut [u64]) -> Option<usize>
+    ensures { (result ≡ count_of (read_on false 0 s.now)) × (row.new ≡ sets row.old 0 (read_on false 0 s.now).values) }
 {
     let mut t = Scan {
         good: true,
@@ -122,28 +114,25 @@ fn read_on(s: &[u8], row: &mut [u64]) -> Numbers
         value: 0,
         count: 0,
     };
-    let mut i = 1;
-    while i < s.len() {
-        let b = s[i];
+    for &b in s {
         store(t, b, row);
         t = step(t, b);
-        i += 1;
     }
     store(t, b' ', row);
     if t.good & t.some {
-        return Numbers::Read(t.count + 1);
+        return Some(t.count + 1);
     }
-    Numbers::Malformed
+    None
 }
 
-pub fn read_numbers(s: &[u8], row: &mut [u64]) -> Numbers
+pub fn read_numbers(s: &[u8], row: &mut [u64]) -> Option<usize>
     ensures { (result ≡ count_of (numbers_of s.now)) × (row.new ≡ sets row.old 0 (numbers_of s.now).values) }
 {
     if s.len() == 0 {
-        return Numbers::Read(0);
+        return Some(0);
     }
     if s[0] == b' ' {
-        return read_on(s, row);
+        return read_on(&s[1..], row);
     }
-    Numbers::Malformed
+    None
 }

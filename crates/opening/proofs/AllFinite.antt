@@ -29,7 +29,7 @@ use Rattle.lunar_solar.specs.Finite as L
 use Rattle.resonance.specs.Place.{at_epoch, epoch_of}
 use Rattle.resonance_terms.specs.Finite.{finite_integrator, finite_kind}
 use Rattle.opening.specs.declared.opening.Satellite.{Satellite}
-use Rattle.opening.specs.declared.opening.Opening.TheVariants as opening
+use Rattle.std.specs.Prelude.{Ok}
 use Rattle.opening.specs.Elements.{elements_of}
 use Rattle.opening.specs.Opening.{epoch_place, newly, finite_deep, finite_method, finite_record, model_of, open_of}
 use Rattle.opening.specs.Finite.{finite_kept, finite_place, finite_satellite}
@@ -161,7 +161,7 @@ place_of_lem : (r : Record) (s : Satellite) → Made r s → finite_method s.mod
 unfolding newly
 place_of_lem r s m h = subst (λ p. finite_place p ≡ true) (sym (ap (λ (z : Satellite). z.place) m.newly_opened)) (place_finite s.model.method h)
 
-pub all_finite : (r : Record) (s : Satellite) → open_of r ≡ opening.Opened s → finite_satellite s ≡ true
+pub all_finite : (r : Record) (s : Satellite) → open_of r ≡ Ok s → finite_satellite s ≡ true
 unfolding finite_satellite finite_record
 all_finite r s e =
     let m = made r s e in

@@ -1,15 +1,14 @@
 -- Opening a record: document 01, "Opening: 16, 7, 8", and 002's sgp4init (lines 2949-3225), the branches joined. Definitions only.
-use Rattle.std.specs.Prelude.{ℕ, Bool, true, cond, ◌&&◌, List, Float}
+use Rattle.std.specs.Prelude.{ℕ, Bool, true, cond, ◌&&◌, List, Float, Err, None, Ok, Option, Result, Some}
 use Rattle.std.specs.Float.Ieee.{lt}
 use Rattle.elementary.specs.Notation.{dec, finite}
 use Rattle.instant.specs.declared.Instant.{Instant}
-use Rattle.instant.specs.declared.Epoch.{Epoch}
-use Rattle.instant.specs.declared.Epoch.TheVariants as epoch
+use Rattle.tle.specs.declared.Refusal.{Refusal as ReadingRefusal}
+use Rattle.opening.specs.declared.opening.PairRefusal.{PairRefusal}
+use Rattle.opening.specs.declared.opening.PairRefusal.TheVariants as pair
 use Rattle.instant.specs.Calendar.{epoch_of}
 use Rattle.instant.specs.Greenwich.{epoch_days_of, greenwich_of}
 use Rattle.tle.specs.declared.Record.{Record}
-use Rattle.tle.specs.declared.Reading.{Reading}
-use Rattle.tle.specs.declared.Reading.TheVariants as reading
 use Rattle.tle.specs.Legal.{legal}
 use Rattle.tle.specs.Read.{read_of}
 use Rattle.tle.specs.Refusals.{Values, nothing, number_of, values_of}
@@ -30,10 +29,6 @@ use Rattle.resonance_terms.specs.Finite.{finite_integrator}
 use Rattle.opening.specs.declared.opening.Satellite.{Satellite}
 use Rattle.opening.specs.declared.opening.Refusal.{Refusal}
 use Rattle.opening.specs.declared.opening.Refusal.TheVariants as refusal
-use Rattle.opening.specs.declared.opening.Opening.{Opening}
-use Rattle.opening.specs.declared.opening.Opening.TheVariants as opening
-use Rattle.opening.specs.declared.opening.PairOpening.{PairOpening}
-use Rattle.opening.specs.declared.opening.PairOpening.TheVariants as pair
 use Rattle.opening.specs.Elements.{elements_of}
 use Rattle.opening.specs.DeepSpace.{deep_space_of}
 
@@ -76,45 +71,45 @@ finite_record m gsto = finite_near m.near && finite_method m.method && finite gs
 
 -- ── opening ──
 
-unfoldable pub checked : Model → Float → Opening
-checked m gsto = cond (finite_record m gsto) (opening.Opened (newly m)) (opening.Refused refusal.NotFinite)
+unfoldable pub checked : Model → Float → Result Satellite Refusal
+checked m gsto = cond (finite_record m gsto) (Ok (newly m)) (Err refusal.NotFinite)
 
 -- 3048: perigee at epoch below one Earth radius
-unfoldable pub above : Elements → Initl → Instant → Float → Float → Opening
-above el i t days gsto = cond (lt i.rp (dec 1 0)) (opening.Refused refusal.Perigee) (checked (model_of el i t days gsto) gsto)
+unfoldable pub above : Elements → Initl → Instant → Float → Float → Result Satellite Refusal
+above el i t days gsto = cond (lt i.rp (dec 1 0)) (Err refusal.Perigee) (checked (model_of el i t days gsto) gsto)
 
 -- of the elements and the epoch
-unfoldable pub started : Elements → Instant → Opening
+unfoldable pub started : Elements → Instant → Result Satellite Refusal
 started el t = above el (initl el.ecco el.inclo el.no) t (epoch_days_of t.0) (greenwich_of t.0)
 
 -- a legal record's epoch is never outside (`epochs_inside` of tle's proofs/Accepted)
-unfoldable pub dated : Record → Epoch → Opening
-dated r (epoch.At t) = started (elements_of r) t
-dated r epoch.Outside = opening.Refused refusal.Record
+unfoldable pub dated : Record → Option Instant → Result Satellite Refusal
+dated r (Some t) = started (elements_of r) t
+dated r None = Err refusal.Record
 
-unfoldable pub open_of : Record → Opening
-open_of r = cond (legal r) (dated r (epoch_of r.year r.day)) (opening.Refused refusal.Record)
+unfoldable pub open_of : Record → Result Satellite Refusal
+open_of r = cond (legal r) (dated r (epoch_of r.year r.day)) (Err refusal.Record)
 
 -- ── two lines: reading, then opening ──
 
-unfoldable pub opened : Opening → PairOpening
-opened (opening.Opened s) = pair.Opened s
-opened (opening.Refused why) = pair.Refused why
+unfoldable pub opened : Result Satellite Refusal → Result Satellite PairRefusal
+opened (Ok s) = Ok s
+opened (Err why) = Err (pair.Refused why)
 
-unfoldable pub after_reading : Reading → PairOpening
-after_reading (reading.Record r) = opened (open_of r)
-after_reading (reading.Refused why) = pair.Unread why
+unfoldable pub after_reading : Result Record ReadingRefusal → Result Satellite PairRefusal
+after_reading (Ok r) = opened (open_of r)
+after_reading (Err why) = Err (pair.Unread why)
 
-unfoldable pub open_pair_of : List ℕ → List ℕ → PairOpening
+unfoldable pub open_pair_of : List ℕ → List ℕ → Result Satellite PairRefusal
 open_pair_of line1 line2 = after_reading (read_of line1 line2)
 
 -- document 01's number of each answer, 0 where there is a satellite, and what comes back with it: with 7, 8 and 16 nothing
-unfoldable pub pair_number : PairOpening → ℕ
-pair_number (pair.Opened s) = 0
-pair_number (pair.Unread why) = number_of why
-pair_number (pair.Refused why) = number why
+unfoldable pub pair_number : Result Satellite PairRefusal → ℕ
+pair_number (Ok s) = 0
+pair_number (Err (pair.Unread why)) = number_of why
+pair_number (Err (pair.Refused why)) = number why
 
-unfoldable pub pair_values : PairOpening → Values
-pair_values (pair.Opened s) = nothing
-pair_values (pair.Unread why) = values_of why
-pair_values (pair.Refused why) = nothing
+unfoldable pub pair_values : Result Satellite PairRefusal → Values
+pair_values (Ok s) = nothing
+pair_values (Err (pair.Unread why)) = values_of why
+pair_values (Err (pair.Refused why)) = nothing

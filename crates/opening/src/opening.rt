@@ -2,15 +2,14 @@
 ghost use Rattle.std.specs.Prelude.{◌≡◌, true};
 ghost use Rattle.instant.specs.Calendar.{in_calendar, epoch_of};
 ghost use Rattle.instant.specs.Greenwich.{epoch_days_of, greenwich_of};
+ghost use Rattle.opening.specs.declared.opening.PairRefusal.TheVariants as pair;
 ghost use Rattle.opening.specs.Opening as O;
 
 use crate::ahead::ahead_of;
 use crate::deep_space::deep_space;
 use crate::elements::elements_of;
 use elementary::is_finite;
-use instant::{
-    Angle, DayCount, Days, Instant, Radians, Strides, epoch_days, epoch_instant, greenwich,
-};
+use instant::{Days, Instant, Radians, Strides, epoch_days, epoch_instant, greenwich};
 use lunar_solar::finite::{finite_lunar_solar, finite_rates};
 use near_earth::finite::finite_near;
 use near_earth::initl::{initl, is_deep_space};
@@ -19,7 +18,7 @@ use near_earth::sgp4init::near_earth;
 use resonance::place::{Place, Side, epoch_place};
 use resonance_terms::finite::finite_integrator;
 use satellite::{DeepSpace, Elements, Method, Model};
-use tle::{Form, Reading, Record, legal, read_form, read_meaning};
+use tle::{Record, legal, read_form, read_meaning};
 
 // An opened satellite: what no request changes, and the saved position.
 #[derive(Clone, Copy)]
@@ -36,18 +35,19 @@ pub enum Refusal {
     NotFinite,
 }
 
+// Why two lines do not open: reading refuses them, with 1 to 6, or opening their record does.
 #[derive(Clone, Copy)]
-pub enum Opening {
-    Opened(Satellite),
+pub enum PairRefusal {
+    Unread(tle::Refusal),
     Refused(Refusal),
 }
 
-// What two lines open to: Unread is a refusal of reading, 1 to 6.
-#[derive(Clone, Copy)]
-pub enum PairOpening {
-    Opened(Satellite),
-    Unread(tle::Refusal),
-    Refused(Refusal),
+impl From<tle::Refusal> for PairRefusal {
+    ghost from_gives = { λ why refusal. refusal ≡ pair.Unread why };
+
+    fn from(why: tle::Refusal) -> PairRefusal {
+        PairRefusal::Unread(why)
+    }
 }
 
 impl Refusal {
@@ -136,20 +136,26 @@ fn finite_record(m: Model, gsto: Radians) -> bool
     finite_near(near) & finite_method(method) & is_finite(gsto.0)
 }
 
-fn checked(m: Model, gsto: Radians) -> Opening
+fn checked(m: Model, gsto: Radians) -> Result<Satellite, Refusal>
     ensures { result ≡ O.checked m gsto.0 }
 {
     if finite_record(m, gsto) {
-        return Opening::Opened(newly(m));
+        return Ok(newly(m));
     }
-    Opening::Refused(Refusal::NotFinite)
+    Err(Refusal::NotFinite)
 }
 
-fn above(el: Elements, i: Initl, epoch: Instant, days: Days, gsto: Radians) -> Opening
+fn above(
+    el: Elements,
+    i: Initl,
+    epoch: Instant,
+    days: Days,
+    gsto: Radians,
+) -> Result<Satellite, Refusal>
     ensures { result ≡ O.above el i epoch days.0 gsto.0 }
 {
     if i.rp < 1.0 {
-        return Opening::Refused(Refusal::Perigee);
+        return Err(Refusal::Perigee);
     }
     checked(model_of(el, i, epoch, days, gsto), gsto)
 }
@@ -159,11 +165,7 @@ fn days_of(t: Instant) -> Days
     requires { in_calendar t.0 ≡ true }
     ensures { result.0 ≡ epoch_days_of t.0 }
 {
-    let days = epoch_days(t);
-    match days {
-        DayCount::Is(x) => x,
-        DayCount::Outside => Days(0.0),
-    }
+    epoch_days(t).unwrap_or(Days(0.0))
 }
 
 // The Greenwich angle at such an instant.
@@ -171,14 +173,10 @@ fn gsto_of(t: Instant) -> Radians
     requires { in_calendar t.0 ≡ true }
     ensures { result.0 ≡ greenwich_of t.0 }
 {
-    let angle = greenwich(t);
-    match angle {
-        Angle::Is(x) => x,
-        Angle::Outside => Radians(0.0),
-    }
+    greenwich(t).unwrap_or(Radians(0.0))
 }
 
-fn started(el: Elements, t: Instant) -> Opening
+fn started(el: Elements, t: Instant) -> Result<Satellite, Refusal>
     requires { in_calendar t.0 ≡ true }
     ensures { result ≡ O.started el t }
 {
@@ -188,50 +186,47 @@ fn started(el: Elements, t: Instant) -> Opening
     above(el, i, t, days, gsto)
 }
 
-fn dated(r: Record, epoch: instant::Epoch) -> Opening
+fn dated(r: Record, epoch: Option<Instant>) -> Result<Satellite, Refusal>
     requires { epoch ≡ epoch_of r.year r.day }
     ensures { result ≡ O.dated r epoch }
 {
     match epoch {
-        instant::Epoch::At(t) => started(elements_of(r), t),
-        instant::Epoch::Outside => Opening::Refused(Refusal::Record),
+        Some(t) => started(elements_of(r), t),
+        None => Err(Refusal::Record),
     }
 }
 
-pub fn open(r: Record) -> Opening
+pub fn open(r: Record) -> Result<Satellite, Refusal>
     ensures { result ≡ O.open_of r }
 {
     if legal(r) {
         return dated(r, epoch_instant(r.year, r.day));
     }
-    Opening::Refused(Refusal::Record)
+    Err(Refusal::Record)
 }
 
-fn opened(o: Opening) -> PairOpening
+fn opened(o: Result<Satellite, Refusal>) -> Result<Satellite, PairRefusal>
     ensures { result ≡ O.opened o }
 {
     match o {
-        Opening::Opened(s) => PairOpening::Opened(s),
-        Opening::Refused(why) => PairOpening::Refused(why),
+        Ok(s) => Ok(s),
+        Err(why) => Err(PairRefusal::Refused(why)),
     }
 }
 
-fn after_reading(reading: Reading) -> PairOpening
+fn after_reading(reading: Result<Record, tle::Refusal>) -> Result<Satellite, PairRefusal>
     ensures { result ≡ O.after_reading reading }
 {
     match reading {
-        Reading::Record(r) => opened(open(r)),
-        Reading::Refused(why) => PairOpening::Unread(why),
+        Ok(r) => opened(open(r)),
+        Err(why) => Err(PairRefusal::Unread(why)),
     }
 }
 
 // Reading and opening as one operation.
-pub fn open_pair(line1: &[u8], line2: &[u8]) -> PairOpening
+pub fn open_pair(line1: &[u8], line2: &[u8]) -> Result<Satellite, PairRefusal>
     ensures { result ≡ O.open_pair_of line1.now line2.now }
 {
-    let form = read_form(line1, line2);
-    let Form::Fields(fields) = form else {
-        return PairOpening::Unread(form.refusal());
-    };
+    let fields = read_form(line1, line2)?;
     after_reading(read_meaning(fields))
 }

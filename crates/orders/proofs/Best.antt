@@ -11,10 +11,9 @@ use Rattle.resonance.specs.Place.{epoch_of}
 use Rattle.sgp4.specs.declared.Row.{Row}
 use Rattle.sgp4.specs.Sgp4.{integrator_of}
 use Rattle.tle.specs.declared.Record.{Record}
-use Rattle.tle.specs.declared.Reading.TheVariants as reading
+use Rattle.std.specs.Prelude.{Ok}
 use Rattle.tle.specs.Read.{read_of}
 use Rattle.opening.specs.declared.opening.Satellite.{Satellite}
-use Rattle.opening.specs.declared.opening.Opening.TheVariants as opening
 use Rattle.opening.specs.Opening.{open_of}
 use Rattle.requests.specs.Lists.{list_refusal, list_times, listed}
 use Rattle.sequences.specs.Demand3.{Many, outcome, sum, none, counts_of, row_alone}
@@ -83,6 +82,6 @@ module _ (s : Satellite) (e : s.place ≡ epoch_of (integrator_of s.model)) (ts 
         best = best;
       }
 
-pub best_order_lem : (line1 line2 : List ℕ) (r : Record) (s : Satellite) → read_of line1 line2 ≡ reading.Record r → open_of r ≡ opening.Opened s
+pub best_order_lem : (line1 line2 : List ℕ) (r : Record) (s : Satellite) → read_of line1 line2 ≡ Ok r → open_of r ≡ Ok s
     → (ts : List ℤ) (a b c : ℕ) → AllInRange ts → (listed s ts a b c).refusal ≡ 0 → BestOrder s ts a b c
 best_order_lem line1 line2 r s reads opens ts a b c w h = from_epoch_best s (opened_place r s opens) ts a b c w h

@@ -11,7 +11,7 @@ use Rattle.resonance.specs.Time.{resonant, whole_strides, in_range}
 use Rattle.sgp4.specs.Sgp4.{integrator_of}
 use Rattle.tle.specs.declared.Record.{Record}
 use Rattle.opening.specs.declared.opening.Satellite.{Satellite}
-use Rattle.opening.specs.declared.opening.Opening.TheVariants as opening
+use Rattle.std.specs.Prelude.{Ok}
 use Rattle.opening.specs.Opening.{open_of}
 use Rattle.requests.specs.Lists.{list_refusal}
 use Rattle.sequences.specs.Demand3.{none, counts_of}
@@ -36,5 +36,5 @@ unfolding Counted Each
 each s e [] c = tt
 each s e (x ∷ xs) c = (strides s e x.times 1024 6144 1024 c.0 ∙ c.1, c.2, each s e xs c.3)
 
-pub examples_hold : (r : Record) (s : Satellite) → open_of r ≡ opening.Opened s → resonant (integrator_of s.model).resonance ≡ true → Each s examples
+pub examples_hold : (r : Record) (s : Satellite) → open_of r ≡ Ok s → resonant (integrator_of s.model).resonance ≡ true → Each s examples
 examples_hold r s o h = each s (opened_place r s o) examples (counts (integrator_of s.model) h)

@@ -10,10 +10,9 @@ use lib.Ieee.{Float}
 use Rattle.sgp4.specs.declared.Row.{Row}
 use Rattle.sgp4.specs.Row.{refused_row}
 use Rattle.tle.specs.declared.Record.{Record}
-use Rattle.tle.specs.declared.Reading.TheVariants as reading
+use Rattle.std.specs.Prelude.{Ok}
 use Rattle.tle.specs.Read.{read_of}
 use Rattle.opening.specs.declared.opening.Satellite.{Satellite}
-use Rattle.opening.specs.declared.opening.Opening.TheVariants as opening
 use Rattle.opening.specs.Opening.{open_of}
 use Rattle.requests.specs.declared.ListAnswer.{ListAnswer}
 use Rattle.requests.specs.Lists.{rows_from, refusals_of, rounds_of, state_of, states_of, over, list_times, list_refusal, ListPost}
@@ -88,7 +87,7 @@ module _ (n : ℕ) (p : Places n) (rs rs' : List Row) (m : Rearranged n p rs rs'
       ∙ sym (get_or-append (states_of rs) (drop (length (states_of rs)) b) d (6 * p.from j + k) (omega (arith, length_states rs, m.size)))
 
 -- two accepted lines, the satellite that they open to, two calls of `request_list` for it that are not refused, the second with the first's times rearranged
-pub written : (line1 line2 : List ℕ) (record' : Record) (s : Satellite) → read_of line1 line2 ≡ reading.Record record' → open_of record' ≡ opening.Opened s
+pub written : (line1 line2 : List ℕ) (record' : Record) (s : Satellite) → read_of line1 line2 ≡ Ok record' → open_of record' ≡ Ok s
     → (ts us : List ℤ) (p : Places (length ts)) → Rearranged (length ts) p ts us
     → (a₀ : List ℕ) (b₀ : List Float) (c₀ : List ℕ) (r : ListAnswer) (a : List ℕ) (b : List Float) (c : List ℕ) → ListPost s ts a₀ b₀ c₀ r a b c → r.refusal ≡ 0
     → (a₁ : List ℕ) (b₁ : List Float) (c₁ : List ℕ) (r' : ListAnswer) (a' : List ℕ) (b' : List Float) (c' : List ℕ) → ListPost s us a₁ b₁ c₁ r' a' b' c' → r'.refusal ≡ 0

@@ -1,24 +1,13 @@
--- One turn of the search for a byte that is no blank, and its end.
-use Prim.Native.Nat.{ℕ, ◌+◌, ◌<◌, ◌≤◌}
-use mathlib.Core.Path.{◌≡◌, ap, ◌∙◌}
-use mathlib.Core.List.{List}
-use mathlib.Core.Bool.{true, false, cond}
-use native.Mathlib.Numerals.{add-one}
-use lib.ListN.{length, drop, get_or, drop_of_length-le}
-use lib.Seq.{drop-cons}
+-- Nothing but blanks, as the library's `all` has it.
+use Rattle.std.proofs.Common.{◌≡◌, ℕ, List, [], ◌∷◌, Bool, true, false, cond, ◌&&◌, refl}
+use Rattle.std.specs.List.{list_all}
 use Rattle.pair_lines.specs.Sort.{is_space, all_blank}
 
-module _ (s : List ℕ) (i : ℕ) where
-  turn : i < length s → all_blank (drop i s) ≡ cond (is_space (get_or s i 0)) (all_blank (drop (i + 1) s)) false
-  unfolding all_blank
-  turn h = rw (add-one, drop-cons s i 0)
+both : (a b : Bool) → cond a b false ≡ (a && b)
+both true b = refl
+both false b = refl
 
-  pub passed : i < length s → is_space (get_or s i 0) ≡ true → all_blank (drop i s) ≡ all_blank (drop (i + 1) s)
-  passed h e = turn h ∙ ap (λ t. cond t (all_blank (drop (i + 1) s)) false) e
-
-  pub found : i < length s → is_space (get_or s i 0) ≡ false → all_blank (drop i s) ≡ false
-  found h e = turn h ∙ ap (λ t. cond t (all_blank (drop (i + 1) s)) false) e
-
-  pub none_left : length s ≤ i → all_blank (drop i s) ≡ true
-  unfolding all_blank
-  none_left h = rw (drop_of_length-le s h)
+pub each_blank : (s : List ℕ) → all_blank s ≡ list_all is_space s
+unfolding all_blank
+each_blank [] = refl
+each_blank (b ∷ s) = rw (each_blank s) (both (is_space b) (list_all is_space s))

@@ -4,7 +4,7 @@
 
 ghost use Rattle.std.specs.Prelude.{◌≡◌};
 ghost use Rattle.text.specs.Output.{Put};
-ghost use Rattle.pair_lines.specs.Sort.{all_blank, begins, sort_of};
+ghost use Rattle.pair_lines.specs.Sort.{is_space, all_blank, begins, sort_of};
 ghost use Rattle.pair_lines.specs.Said.{remark_text, said_text, blank_text, heading_text, summary_text};
 
 use marked_line::put_shown;
@@ -19,19 +19,17 @@ pub enum Sort {
     Other,
 }
 
+fn is_space(b: u8) -> bool
+    ensures { result ≡ is_space b }
+{
+    (b == b' ') | (b == 9) | (b == 13)
+}
+
 // Nothing but blanks, tabs and carriage returns.
 fn all_blank(line: &[u8]) -> bool
     ensures { result ≡ all_blank line.now }
 {
-    let mut i = 0;
-    while i < line.len() {
-        let b = line[i];
-        if !((b == b' ') | (b == 9) | (b == 13)) {
-            return false;
-        }
-        i += 1;
-    }
-    true
+    line.iter().all(|&b| is_space(b))
 }
 
 // Whether the line begins with a digit and a blank.

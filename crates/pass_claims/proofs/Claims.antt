@@ -28,7 +28,7 @@ use Rattle.sequences.specs.Demand3.{none}
 use Rattle.sequences.proofs.Demand3.{satellite_at, opened_place}
 use Rattle.pass_edges.specs.declared.Best.{Best}
 use Rattle.passes.specs.declared.Scan.{Scan}
-use Rattle.passes.specs.declared.Passing.TheVariants as passing
+use Rattle.std.specs.Prelude.{Err, None, Ok, Some}
 use Rattle.pass_edges.specs.Search.{sine_at, above_at, until, left_over, edge, climbed, summit}
 use Rattle.passes.specs.Samples.{hits, higher, begin, stopped, passed, judged, sampled, stops}
 use Rattle.passes.specs.Passes.{pass_refusal, scanned, scans_left, after, pass_of, searched, next_pass}
@@ -485,7 +485,7 @@ module _ (site : Site) (k : Model) (least : Float) (step : ℕ) where
             }
         going_on false e z = impossible (false≢true (sym z))
 
-    by_found : (b : Bool) → up.found ≡ b → Right f least t step n (cond b (passing.Found (pass_of site least step up down (scans_left site least false step j up.satellite up.next))) passing.Nothing)
+    by_found : (b : Bool) → up.found ≡ b → Right f least t step n (cond b (Ok (Some (pass_of site least step up down (scans_left site least false step j up.satellite up.next)))) (Ok None))
     by_found true g =
         let u = upward n s t h in
         (refined up down (scans_left site least false step j up.satellite up.next) hs u g (downward up.next j up.satellite u.held (u.hit g)), first g)
@@ -496,12 +496,12 @@ module _ (site : Site) (k : Model) (least : Float) (step : ℕ) where
     right = by_found up.found refl
 
 opened : (s : Satellite) (g : Geodetic) (least : Float) (t step n : ℕ) (b : Bool) → eqb (pass_refusal g least step) 0 ≡ b
-    → next_pass s g least t step n ≡ cond b (searched (site_of g) (sin_of (radians_of least)) (step * 1000000) n s t) (passing.Refused (pass_refusal g least step))
+    → next_pass s g least t step n ≡ cond b (searched (site_of g) (sin_of (radians_of least)) (step * 1000000) n s t) (Err (pass_refusal g least step))
 unfolding next_pass
-opened s g least t step n b e = ap (λ z. cond z (searched (site_of g) (sin_of (radians_of least)) (step * 1000000) n s t) (passing.Refused (pass_refusal g least step))) e
+opened s g least t step n b e = ap (λ z. cond z (searched (site_of g) (sin_of (radians_of least)) (step * 1000000) n s t) (Err (pass_refusal g least step))) e
 
 by_refusal : (s : Satellite) → Held s.model s → (g : Geodetic) (least : Float) (t step n : ℕ) (b : Bool) → eqb (pass_refusal g least step) 0 ≡ b
-    → Right (sine_at (site_of g) (satellite_at s.model none)) (sin_of (radians_of least)) t (step * 1000000) n (cond b (searched (site_of g) (sin_of (radians_of least)) (step * 1000000) n s t) (passing.Refused (pass_refusal g least step)))
+    → Right (sine_at (site_of g) (satellite_at s.model none)) (sin_of (radians_of least)) t (step * 1000000) n (cond b (searched (site_of g) (sin_of (radians_of least)) (step * 1000000) n s t) (Err (pass_refusal g least step)))
 by_refusal s h g least t step n true e =
     let w : step ≤ 86400 = short_step g least step (eqb-true (pass_refusal g least step) 0 e) in
     right (site_of g) s.model (sin_of (radians_of least)) (step * 1000000) s h (omega (arith, w)) n t

@@ -1,5 +1,5 @@
 -- What is claimed of the passes of a satellite newly opened, and proved in proofs/Claims. Definitions only.
-use Rattle.std.specs.Prelude.{ℕ, ◌+◌, ◌-◌, ◌*◌, ◌≤◌, ◌<◌, ◌≡◌, Bool, true, false, Float}
+use Rattle.std.specs.Prelude.{ℕ, ◌+◌, ◌-◌, ◌*◌, ◌≤◌, ◌<◌, ◌≡◌, Bool, true, false, Float, Err, None, Ok, Option, Result, Some}
 use Rattle.std.specs.Float.Ieee.{lt}
 use Rattle.elementary.specs.Trig.{sin_of}
 use Rattle.instant.specs.Quantity.{radians_of}
@@ -9,11 +9,8 @@ use Rattle.geodetic.specs.Geodetic.{site_of}
 use Rattle.horizon.specs.Horizon.{nadir}
 use Rattle.tle.specs.declared.Record.{Record}
 use Rattle.opening.specs.declared.opening.Satellite.{Satellite}
-use Rattle.opening.specs.declared.opening.Opening.TheVariants.{Opened}
 use Rattle.opening.specs.Opening.{open_of}
 use Rattle.passes.specs.declared.Pass.{Pass}
-use Rattle.passes.specs.declared.Passing.{Passing}
-use Rattle.passes.specs.declared.Passing.TheVariants as passing
 use Rattle.pass_edges.specs.Search.{sine_at}
 use Rattle.passes.specs.Passes.{next_pass}
 
@@ -50,13 +47,13 @@ pub record First (f : ℕ → Float) (least : Float) (t step n : ℕ) (x : Pass)
 abbrev pub NoneAbove : (ℕ → Bool) → ℕ → ℕ → ℕ → Type 0
 NoneAbove p t step n = (i : ℕ) → i < n → in_calendar (t + i * step) ≡ true → p (t + i * step) ≡ false
 
-abbrev pub Right : (ℕ → Float) → Float → ℕ → ℕ → ℕ → Passing → Type 0
-Right f least t step n (passing.Found x) = Refined (above f least) x × First f least t step n x
-Right f least t step n passing.Nothing = NoneAbove (above f least) t step n
-Right f least t step n (passing.Refused r) = Unit {0}
+abbrev pub Right : (ℕ → Float) → Float → ℕ → ℕ → ℕ → Result (Option Pass) ℕ → Type 0
+Right f least t step n (Ok (Some x)) = Refined (above f least) x × First f least t step n x
+Right f least t step n (Ok None) = NoneAbove (above f least) t step n
+Right f least t step n (Err r) = Unit {0}
 
 -- every answer for a satellite newly opened, by that satellite asked one instant alone (`opened_passes`)
 abbrev pub OpenedPasses : Type 0
 OpenedPasses =
-    (r : Record) (s : Satellite) → open_of r ≡ Opened s
+    (r : Record) (s : Satellite) → open_of r ≡ Ok s
     → (g : Geodetic) (least : Float) (t step n : ℕ) → Right (sine_at (site_of g) s) (sin_of (radians_of least)) t (step * 1000000) n (next_pass s g least t step n)

@@ -14,12 +14,11 @@ module _ (p : ℕ → Bool) (below above : ℕ) where
   abbrev ends : Ends
   ends = record { below = below; above = above }
 
-  pub edge_early : (k : ℕ) (x y : Ends) (b : Bool) → Left neighbours (halved p) 37 ends k x → 0 < k → y ≡ halved p x → b ≡ neighbours y → b ≡ true
-      → y.above ≡ edge p below above
+  pub edge_early : (k : ℕ) (x : Ends) → Left neighbours (halved p) 37 ends k x → k < 37 → (y : Ends) → y ≡ halved p x → neighbours y ≡ true → y.above ≡ edge p below above
   unfolding edge
-  edge_early k x y b l h e eb t = ap (λ (z : Ends). z.above) (early neighbours (halved p) 37 ends k x y l h e (sym eb ∙ t)).0
+  edge_early k x l h y e t = ap (λ (z : Ends). z.above) (early neighbours (halved p) 37 ends k x l h y e t).0
 
-  pub edge_late : (k : ℕ) (x : Ends) → Left neighbours (halved p) 37 ends k x → k ≤ 0 → x.above ≡ edge p below above
+  pub edge_late : (k : ℕ) (x : Ends) → Left neighbours (halved p) 37 ends k x → 37 ≤ k → x.above ≡ edge p below above
   unfolding edge
   edge_late k x l h = ap (λ (z : Ends). z.above) (late neighbours (halved p) 37 ends k x l h).0
 
@@ -27,14 +26,13 @@ module _ (f : ℕ → Float) (lo hi : ℕ) where
   abbrev whole : Bracket
   whole = record { lo = lo; hi = hi }
 
-  pub climb_early : (k : ℕ) (x y : Bracket) (b : Bool) (r : ℕ) → Left narrow (thirds f) 64 whole k x → 0 < k → y ≡ thirds f x → b ≡ narrow y → b ≡ true → r ≡ centre y
-      → r ≡ climbed f lo hi
+  pub climb_early : (k : ℕ) (x : Bracket) → Left narrow (thirds f) 64 whole k x → k < 64 → (y : Bracket) → y ≡ thirds f x → narrow y ≡ true → (r : ℕ) → r ≡ centre y → r ≡ climbed f lo hi
   unfolding climbed
-  climb_early k x y b r l h e eb t c = c ∙ ap centre (early narrow (thirds f) 64 whole k x y l h e (sym eb ∙ t)).0
+  climb_early k x l h y e t r c = c ∙ ap centre (early narrow (thirds f) 64 whole k x l h y e t).0
 
-  pub climb_late : (k : ℕ) (x : Bracket) (r : ℕ) → Left narrow (thirds f) 64 whole k x → k ≤ 0 → r ≡ centre x → r ≡ climbed f lo hi
+  pub climb_late : (k : ℕ) (x : Bracket) → Left narrow (thirds f) 64 whole k x → 64 ≤ k → (r : ℕ) → r ≡ centre x → r ≡ climbed f lo hi
   unfolding climbed
-  climb_late k x r l h c = c ∙ ap centre (late narrow (thirds f) 64 whole k x l h).0
+  climb_late k x l h r c = c ∙ ap centre (late narrow (thirds f) 64 whole k x l h).0
 
 module _ (f : ℕ → Float) (b : Best) (rise set step lo hi m : ℕ) (y : Float) (hlo : lo ≡ max rise (b.at - step)) (hhi : hi ≡ min set (b.at + step)) (hm : m ≡ climbed f lo hi) (hy : y ≡ f m) where
   abbrev m₀ : ℕ

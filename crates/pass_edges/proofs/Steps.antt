@@ -1,9 +1,11 @@
 -- One halving, one third: what the code does is what the definition says.
 use mathlib.Core.Path.{◌≡◌, refl, sym, ap, ◌∙◌}
-use mathlib.Core.Bool.{Bool, true, false, cond, ◌&&◌}
+use mathlib.Core.Bool.{Bool, true, false, cond}
 use Prim.Native.Nat.{ℕ, ◌+◌, ◌-◌, ◌/◌, ◌≤◌, ◌<◌}
 use native.Mathlib.Omega.{arith}
 use lib.Dec.{leb}
+use Rattle.std.specs.Int.{abs_diff}
+use Rattle.std.proofs.lemmas.Bool.Decides.{nat_tests}
 use lib.Ieee.{Float, lt}
 use borrow.Author.Tests.{leb-true, leb-false, le-leb, lt-leb}
 use Rattle.pass_edges.specs.declared.Ends.{Ends}
@@ -41,24 +43,9 @@ same_by a b c d false h f g = h ∙ sym (lt-leb c d (g (leb-false a b h)))
 same : (a b c d : ℕ) → (a ≤ b → c ≤ d) → (b < a → d < c) → leb a b ≡ leb c d
 same a b c d f g = same_by a b c d (leb a b) refl f g
 
-both : (a b : Bool) → a ≡ true → b ≡ (a && b)
-both a b h = sym (ap (λ z. z && b) h)
-
-other : (a b : Bool) → b ≡ true → a ≡ (a && b)
-other true b h = sym h
-other false b h = refl
-
-pub near_up : (e : Ends) → e.below < e.above → leb (e.above - e.below) 1 ≡ neighbours e
+pub near : (e : Ends) (d : ℕ) → d ≡ abs_diff e.below e.above → leb d 1 ≡ neighbours e
 unfolding neighbours
-near_up e h =
-    same (e.above - e.below) 1 e.above (e.below + 1) (λ l. omega arith) (λ l. omega arith)
-    ∙ both (leb e.below (e.above + 1)) (leb e.above (e.below + 1)) (le-leb e.below (e.above + 1) (omega arith))
-
-pub near_down : (e : Ends) → e.above ≤ e.below → leb (e.below - e.above) 1 ≡ neighbours e
-unfolding neighbours
-near_down e h =
-    same (e.below - e.above) 1 e.below (e.above + 1) (λ l. omega arith) (λ l. omega arith)
-    ∙ other (leb e.below (e.above + 1)) (leb e.above (e.below + 1)) (le-leb e.above (e.below + 1) (omega arith))
+near e d h = grind (arith, nat_tests)
 
 -- ── one third ──
 

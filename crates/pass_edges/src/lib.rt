@@ -33,40 +33,20 @@ pub struct Ends {
     pub above: u64,
 }
 
-fn middle(a: u64, b: u64) -> u64
-    ensures { result ≡ S.middle a b }
-{
-    if a < b {
-        return a + (b - a) / 2;
-    }
-    b + (a - b) / 2
-}
-
 fn halved(satellite: Satellite, site: Site, least: f64, e: Ends) -> Ends
     ensures { result ≡ S.halved (S.above_at site least satellite) e }
 {
-    let m = middle(e.below, e.above);
+    let m = e.below.midpoint(e.above);
     if above(satellite, site, least, m) {
-        return Ends {
-            below: e.below,
-            above: m,
-        };
+        return Ends { above: m, ..e };
     }
-    Ends {
-        below: m,
-        above: e.above,
-    }
+    Ends { below: m, ..e }
 }
 
 fn neighbours(e: Ends) -> bool
     ensures { result ≡ S.neighbours e }
 {
-    let a = e.below;
-    let b = e.above;
-    if a < b {
-        return b - a <= 1;
-    }
-    a - b <= 1
+    e.below.abs_diff(e.above) <= 1
 }
 
 // The instant above that has one not above beside it.
@@ -74,13 +54,11 @@ pub fn edge(satellite: Satellite, site: Site, least: f64, below: u64, above: u64
     ensures { result ≡ S.edge (S.above_at site least satellite) below above }
 {
     let mut e = Ends { below, above };
-    let mut left = 37u8;
-    while left > 0 {
+    for _ in 0..37u8 {
         e = halved(satellite, site, least, e);
         if neighbours(e) {
             return e.above;
         }
-        left -= 1;
     }
     e.above
 }
@@ -96,10 +74,7 @@ pub struct Bracket {
 fn width(b: Bracket) -> u64
     ensures { result ≡ b.hi - b.lo }
 {
-    if b.hi > b.lo {
-        return b.hi - b.lo;
-    }
-    0
+    b.hi.saturating_sub(b.lo)
 }
 
 fn sine_at(satellite: Satellite, site: Site, t: u64) -> f64
@@ -142,13 +117,11 @@ fn climbed(satellite: Satellite, site: Site, lo: u64, hi: u64) -> u64
     ensures { result ≡ S.climbed (S.sine_at site satellite) lo hi }
 {
     let mut b = Bracket { lo, hi };
-    let mut left = 64u8;
-    while left > 0 {
+    for _ in 0..64u8 {
         b = thirds(satellite, site, b);
         if narrow(b) {
             return centre(b);
         }
-        left -= 1;
     }
     centre(b)
 }
@@ -157,26 +130,14 @@ fn climbed(satellite: Satellite, site: Site, lo: u64, hi: u64) -> u64
 fn earlier(least: u64, t: u64, step: u64) -> u64
     ensures { result ≡ max least (t - step) }
 {
-    if t < step {
-        return least;
-    }
-    if t - step < least {
-        return least;
-    }
-    t - step
+    t.saturating_sub(step).max(least)
 }
 
 // A step after an instant, but not after the most.
 fn later(most: u64, t: u64, step: u64) -> u64
     ensures { result ≡ min most (t + step) }
 {
-    if most <= t {
-        return most;
-    }
-    if most - t <= step {
-        return most;
-    }
-    t + step
+    t.saturating_add(step).min(most)
 }
 
 // The highest point of a pass from rise to set, whose highest sample is known.

@@ -1,7 +1,7 @@
 -- A scan, ended.
 use mathlib.Core.Path.{◌≡◌, ap, ◌∙◌}
 use mathlib.Core.Bool.{Bool, true}
-use Prim.Native.Nat.{ℕ, ◌≤◌, ◌<◌}
+use Prim.Native.Nat.{ℕ, ◌-◌, ◌≤◌, ◌<◌}
 use lib.Ieee.{Float}
 use Rattle.geodetic.specs.declared.Site.{Site}
 use Rattle.opening.specs.declared.opening.Satellite.{Satellite}
@@ -24,10 +24,10 @@ module _ (site : Site) (least : Float) (wanted : Bool) (step n : ℕ) (s : Satel
   unfolding scanned scans_left
   told k y e = (e.1 ∙ ap (left_over stops next n) h₀, e.0 ∙ ap (until stops next n) h₀)
 
-  pub scan_early : (k : ℕ) (x y : Scan) → Scanning k x → 0 < k → y ≡ next x → y.stop ≡ true
-      → (k ≡ scans_left site least wanted step n s t) × (y ≡ scanned site least wanted step n s t)
-  scan_early k x y l h e b = told k y (early stops next n x₀ k x y l h e b)
+  pub scan_early : (k : ℕ) (x : Scan) → Scanning k x → k < n → (y : Scan) → y ≡ next x → y.stop ≡ true
+      → (n - k ≡ scans_left site least wanted step n s t) × (y ≡ scanned site least wanted step n s t)
+  scan_early k x l h y e b = told (n - k) y (early stops next n x₀ k x l h y e b)
 
-  pub scan_late : (k : ℕ) (x : Scan) → Scanning k x → k ≤ 0
-      → (k ≡ scans_left site least wanted step n s t) × (x ≡ scanned site least wanted step n s t)
-  scan_late k x l h = told k x (late stops next n x₀ k x l h)
+  pub scan_late : (k : ℕ) (x : Scan) → Scanning k x → n ≤ k
+      → (0 ≡ scans_left site least wanted step n s t) × (x ≡ scanned site least wanted step n s t)
+  scan_late k x l h = told 0 x (late stops next n x₀ k x l h)

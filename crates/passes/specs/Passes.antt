@@ -1,5 +1,5 @@
 -- The next pass of a satellite over a station: refusals, and the answer. Definitions only.
-use Rattle.std.specs.Prelude.{ℕ, ◌*◌, Bool, true, false, cond, not, ◌&&◌, ◌||◌, eqb, ltb, Float}
+use Rattle.std.specs.Prelude.{ℕ, ◌*◌, Bool, true, false, cond, not, ◌&&◌, ◌||◌, eqb, ltb, Float, Err, None, Ok, Option, Result, Some}
 use Rattle.elementary.specs.Notation.{dec}
 use Rattle.elementary.specs.Trig.{sin_of}
 use Rattle.instant.specs.Quantity.{radians_of}
@@ -10,8 +10,6 @@ use Rattle.opening.specs.declared.opening.Satellite.{Satellite}
 use Rattle.sightings.specs.Sightings.{seen_at}
 use Rattle.passes.specs.declared.Scan.{Scan}
 use Rattle.passes.specs.declared.Pass.{Pass}
-use Rattle.passes.specs.declared.Passing as ps
-use Rattle.passes.specs.declared.Passing.TheVariants as passing
 use Rattle.pass_edges.specs.Search.{sine_at, above_at}
 use Rattle.pass_edges.specs.Search.{until, left_over, edge, summit}
 use Rattle.passes.specs.Samples.{begin, sampled, stops}
@@ -58,17 +56,17 @@ pass_of site least step up down left =
     }
 
 -- a step of microseconds
-unfoldable pub searched : Site → Float → ℕ → ℕ → Satellite → ℕ → ps.Passing
+unfoldable pub searched : Site → Float → ℕ → ℕ → Satellite → ℕ → Result (Option Pass) ℕ
 searched site least step n s t =
     let up = scanned site least true step n s t in
     let k = scans_left site least true step n s t in
     let down = scanned site least false step k up.satellite up.next in
     cond up.found
-    (passing.Found (pass_of site least step up down (scans_left site least false step k up.satellite up.next)))
-    passing.Nothing
+    (Ok (Some (pass_of site least step up down (scans_left site least false step k up.satellite up.next))))
+    (Ok None)
 
 -- the first pass among n samples from t, a step of seconds apart
-unfoldable pub next_pass : Satellite → Geodetic → Float → ℕ → ℕ → ℕ → ps.Passing
+unfoldable pub next_pass : Satellite → Geodetic → Float → ℕ → ℕ → ℕ → Result (Option Pass) ℕ
 next_pass s g least t step n =
     let r = pass_refusal g least step in
-    cond (eqb r 0) (searched (site_of g) (sin_of (radians_of least)) (step * 1000000) n s t) (passing.Refused r)
+    cond (eqb r 0) (searched (site_of g) (sin_of (radians_of least)) (step * 1000000) n s t) (Err r)

@@ -68,15 +68,10 @@ fn begin(satellite: Satellite, t: u64) -> Scan
 fn stopped(found: bool, x: Scan) -> Scan
     ensures { result ≡ S.stopped found x }
 {
-    let best = x.best;
-    let satellite = x.satellite;
     Scan {
         stop: true,
         found,
-        last: x.last,
-        next: x.next,
-        best,
-        satellite,
+        ..x
     }
 }
 
@@ -130,15 +125,16 @@ fn scan_samples(
     ensures scan_value { result.scan ≡ P.scanned site least wanted step samples satellite t }
 {
     let mut x = begin(satellite, t);
-    let mut left = samples;
-    while left > 0 {
+    for k in 0..samples {
         x = sampled(site, least, wanted, step, x);
         if x.stop {
-            return Scanned { left, scan: x };
+            return Scanned {
+                left: samples - k,
+                scan: x,
+            };
         }
-        left -= 1;
     }
-    Scanned { left, scan: x }
+    Scanned { left: 0, scan: x }
 }
 
 // ---- The pass.
@@ -154,14 +150,6 @@ pub struct Pass {
     pub still: bool,
     pub next: Instant,
     pub left: u32,
-}
-
-#[derive(Clone, Copy)]
-pub enum Passing {
-    Found(Pass),
-    // No sample is above.
-    Nothing,
-    Refused(u8),
 }
 
 // The instant of the sample that ended the pass, or of its last one.
@@ -204,7 +192,14 @@ fn pass_of(site: Site, least: f64, step: u64, up: Scan, down: Scan, left: u32) -
     }
 }
 
-fn search(satellite: Satellite, site: Site, least: f64, step: u64, samples: u32, t: u64) -> Passing
+fn search(
+    satellite: Satellite,
+    site: Site,
+    least: f64,
+    step: u64,
+    samples: u32,
+    t: u64,
+) -> Result<Option<Pass>, u8>
     requires { step ≤ 86400000000 }
     ensures { result ≡ P.searched site least step samples satellite t }
 {
@@ -214,9 +209,9 @@ fn search(satellite: Satellite, site: Site, least: f64, step: u64, samples: u32,
         let risen = up.satellite;
         let second = scan_samples(risen, site, least, false, step, first.left, up.next);
         let down = second.scan;
-        return Passing::Found(pass_of(site, least, step, up, down, second.left));
+        return Ok(Some(pass_of(site, least, step, up, down, second.left)));
     }
-    Passing::Nothing
+    Ok(None)
 }
 
 // The refusal of a call, before any sample: 25 or 26, or 0.
@@ -245,12 +240,12 @@ pub fn next_pass(
     start: Instant,
     step: Seconds,
     samples: u32,
-) -> Passing
+) -> Result<Option<Pass>, u8>
     ensures { result ≡ P.next_pass satellite station least.0 start.0 step.0 samples }
 {
     let refusal = pass_refusal(station, least, step);
     if refusal != 0 {
-        return Passing::Refused(refusal);
+        return Err(refusal);
     }
     let site = site_of(station);
     let sine = elementary::sin(to_radians(least).0);

@@ -106,9 +106,7 @@ fn inclined(k: Changes, x: Perturbed) -> Perturbed
     Perturbed {
         ep: x.ep + k.pe,
         inclp: x.inclp + k.pinc,
-        nodep: x.nodep,
-        argpp: x.argpp,
-        mp: x.mp,
+        ..x
     }
 }
 
@@ -118,11 +116,10 @@ fn direct(k: Changes, x: Perturbed, sinip: f64, cosip: f64) -> Perturbed
     let ph = k.ph / sinip;
     let pgh = k.pgh - cosip * ph;
     Perturbed {
-        ep: x.ep,
-        inclp: x.inclp,
         nodep: x.nodep + ph,
         argpp: x.argpp + pgh,
         mp: x.mp + k.pl,
+        ..x
     }
 }
 
@@ -175,11 +172,10 @@ fn lyddane_at(node: f64, k: Changes, x: Perturbed, sinip: f64, cosip: f64) -> Pe
     let nodep = turn_of(xnoh, node, apart);
     let mp = x.mp + k.pl;
     Perturbed {
-        ep: x.ep,
-        inclp: x.inclp,
         nodep,
         argpp: xls - mp - cosip * nodep,
         mp,
+        ..x
     }
 }
 

@@ -4,46 +4,20 @@
 
 ghost use Rattle.text.specs.Input.{started, More};
 
-use listing::Printed;
 use text::Lines;
 
-// The lines after a read, and whether to go on.
-#[derive(Clone, Copy)]
-struct Turn {
-    lines: Lines,
-    more: bool,
-}
-
-fn read_more(rt: HostRuntime, failed: &mut bool, lines: Lines) -> Turn
-    ensures { More lines result.lines }
-{
-    let mut buffer = [0u8; 4096];
-    let n = streams::read(rt, failed, &mut buffer);
-    if n == 0 {
-        return Turn { lines, more: false };
-    }
-    let lines = lines.feed(&buffer[..n]);
-    let ended = lines.ended;
-    Turn {
-        lines,
-        more: ended < 2,
-    }
-}
-
-// A proved loop has to end, and nothing says that the input does. So it counts its turns down, from a
-// number that no run uses up.
+// A proved loop has to end, and nothing says that the input does: no run uses up so many turns.
 fn read_lines(rt: HostRuntime, failed: &mut bool) -> Lines
     ensures { More started result }
 {
+    let mut buffer = [0u8; 4096];
     let mut lines = Lines::start();
-    let mut turns = u64::MAX;
-    while turns > 0 {
-        let turn = read_more(rt, failed, lines);
-        lines = turn.lines;
-        if !turn.more {
-            return lines;
+    for _ in 0..u64::MAX {
+        let n = streams::read(rt, failed, &mut buffer);
+        lines = lines.feed(&buffer[..n]);
+        if n == 0 || lines.ended >= 2 {
+            break;
         }
-        turns -= 1;
     }
     lines
 }
@@ -54,10 +28,8 @@ fn main(rt: HostRuntime) {
     let lines = read_lines(rt, &mut failed);
     let mut out = [0u8; 4096];
     let printed = listing::print_lines(lines, &mut out);
-    let Printed::Written(n) = printed else {
+    let Some(n) = printed else {
         return;
     };
-    if n <= 4096 {
-        streams::print(rt, &mut failed, &out[0..n]);
-    }
+    streams::print_room(rt, &mut failed, &out, n);
 }

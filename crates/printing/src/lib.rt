@@ -3,10 +3,10 @@
 // the rooms that it filled. As in streams, a failure stays marked.
 #![tactic(auto)]
 
-ghost use Rattle.std.specs.Prelude.{◌≡◌, true, ◌≤◌, ◌<◌};
+ghost use Rattle.std.specs.Prelude.{◌≡◌, true};
 
 use row_line::put_row;
-use streams::print;
+use streams::print_room;
 use text::put_line;
 
 fn print_number(rt: HostRuntime, failed: &mut bool, label: &[u8], n: u64)
@@ -14,9 +14,7 @@ fn print_number(rt: HostRuntime, failed: &mut bool, label: &[u8], n: u64)
 {
     let mut out = [0u8; 64];
     let size = put_line(&mut out, 0, label, n);
-    if size <= 64 {
-        print(rt, failed, &out[0..size]);
-    }
+    print_room(rt, failed, &out, size);
 }
 
 pub fn print_refused(rt: HostRuntime, failed: &mut bool, n: u64)
@@ -48,34 +46,10 @@ fn print_row(rt: HostRuntime, failed: &mut bool, refusal: u8, state: [f64; 6], r
     let size = put_row(
         &mut out, 0, refusal, state[0], state[1], state[2], state[3], state[4], state[5], rounds,
     );
-    if size <= 128 {
-        print(rt, failed, &out[0..size]);
-    }
+    print_room(rt, failed, &out, size);
 }
 
-fn print_row_at(
-    rt: HostRuntime,
-    failed: &mut bool,
-    i: usize,
-    refusals: &[u8; 1024],
-    states: &[f64; 6144],
-    rounds: &[u8; 1024],
-)
-    requires { i < 1024 }
-    ensures { failed.old ≡ true → failed.new ≡ true }
-{
-    let at = 6 * i;
-    let state = [
-        states[at],
-        states[at + 1],
-        states[at + 2],
-        states[at + 3],
-        states[at + 4],
-        states[at + 5],
-    ];
-    print_row(rt, failed, refusals[i], state, rounds[i]);
-}
-
+// The first n rows of the rooms.
 fn print_rows(
     rt: HostRuntime,
     failed: &mut bool,
@@ -84,13 +58,11 @@ fn print_rows(
     states: &[f64; 6144],
     rounds: &[u8; 1024],
 )
-    requires { n ≤ 1024 }
     ensures { failed.old ≡ true → failed.new ≡ true }
 {
-    let mut i = 0;
-    while i < n {
-        print_row_at(rt, failed, i, refusals, states, rounds);
-        i += 1;
+    let (states, _) = states.as_chunks::<6>();
+    for ((refusal, state), round) in refusals.iter().zip(states).zip(rounds).take(n) {
+        print_row(rt, failed, *refusal, *state, *round);
     }
 }
 

@@ -16,35 +16,34 @@ use Rattle.near_earth.specs.Sgp4init.{near_earth}
 use Rattle.near_earth.specs.Finite.{finite_near}
 use Rattle.opening.specs.declared.opening.Satellite.{Satellite}
 use Rattle.opening.specs.declared.opening.Refusal.TheVariants as full-refusal
-use Rattle.opening.specs.declared.opening.Opening.TheVariants as full
+use Rattle.std.specs.Prelude.{Err, Ok}
 use Rattle.opening.specs.Opening as O
 use Rattle.opening.specs.Opening.{newly, model_of, finite_method, finite_record, checked, above}
 use Rattle.profile.specs.declared.opener.Refusal.TheVariants as refusal
-use Rattle.profile.specs.declared.opener.Opening.TheVariants as opening
 use Rattle.profile.specs.Opening.{narrow, narrowed, open_read_of, open_of, near_checked}
 
 -- a legal record is opened without being judged again
 pub read_opens : (r : Record) → legal r ≡ true → open_read_of r ≡ open_of r
 unfolding open_read_of open_of O.open_of
-read_opens r h = sym (ap (λ (b : Bool). narrowed r (cond b (O.dated r (epoch_of r.year r.day)) (full.Refused full-refusal.Record))) h)
+read_opens r h = sym (ap (λ (b : Bool). narrowed r (cond b (O.dated r (epoch_of r.year r.day)) (Err full-refusal.Record))) h)
 
 module _ (el : Elements) (i : Initl) (t : Instant) (days : Float) where
-  pub at_perigee : (gsto : Float) → lt i.rp (dec 1 0) ≡ true → opening.Refused refusal.Perigee ≡ narrow (deep_space i) (above el i t days gsto)
+  pub at_perigee : (gsto : Float) → lt i.rp (dec 1 0) ≡ true → Err refusal.Perigee ≡ narrow (deep_space i) (above el i t days gsto)
   unfolding above narrow
   at_perigee gsto h = rw h
 
-  deep_by : (b : Bool) (s : Satellite) → narrow true (cond b (full.Opened s) (full.Refused full-refusal.NotFinite)) ≡ opening.Refused refusal.DeepSpace
+  deep_by : (b : Bool) (s : Satellite) → narrow true (cond b (Ok s) (Err full-refusal.NotFinite)) ≡ Err refusal.DeepSpace
   unfolding narrow
   deep_by true s = refl
   deep_by false s = refl
 
-  pub at_deep : (gsto : Float) → lt i.rp (dec 1 0) ≡ false → deep_space i ≡ true → opening.Refused refusal.DeepSpace ≡ narrow (deep_space i) (above el i t days gsto)
+  pub at_deep : (gsto : Float) → lt i.rp (dec 1 0) ≡ false → deep_space i ≡ true → Err refusal.DeepSpace ≡ narrow (deep_space i) (above el i t days gsto)
   unfolding above checked
   at_deep gsto h d = let m = model_of el i t days gsto in rw (h, d) (sym (deep_by (finite_record m gsto) (newly m)))
 
   near_by : (a b : Bool) (s : Satellite)
-      → narrow false (cond (a && true && b) (full.Opened s) (full.Refused full-refusal.NotFinite))
-      ≡ cond (a && b) (opening.Opened s.model.near s.model.epoch) (opening.Refused refusal.NotFinite)
+      → narrow false (cond (a && true && b) (Ok s) (Err full-refusal.NotFinite))
+      ≡ cond (a && b) (Ok (s.model.near, s.model.epoch)) (Err refusal.NotFinite)
   unfolding narrow
   near_by true true s = refl
   near_by true false s = refl

@@ -8,10 +8,11 @@ use Rattle.tle.specs.declared.Record.{Record}
 use Rattle.satellite.specs.declared.NearEarth.{NearEarth}
 use Rattle.satellite.specs.declared.Model.{Model}
 use Rattle.resonance.specs.declared.place.Place.{Place}
+use Rattle.opening.specs.declared.opening.Refusal.{Refusal as FullRefusal}
 use Rattle.opening.specs.declared.opening.Satellite.{Satellite}
 use Rattle.opening.specs.declared.opening.Refusal.TheVariants as full-refusal
-use Rattle.opening.specs.declared.opening.Opening as full-opening
-use Rattle.opening.specs.declared.opening.Opening.TheVariants as full
+use Rattle.std.specs.Prelude.{Err, Ok, Result}
+use Rattle.profile.specs.declared.opener.Refusal.{Refusal}
 use Rattle.opening.specs.Elements.{elements_of}
 use Rattle.opening.specs.Opening as O
 use Rattle.opening.specs.Opening.{model_of, newly}
@@ -19,8 +20,6 @@ use Rattle.opening.proofs.Made.{made, model_at}
 use Rattle.requests.specs.Request as F
 use Rattle.requests.specs.Lists.{rows_from, strides_from, satellite_from, holding}
 use Rattle.storage.specs.Near.{near_satellite}
-use Rattle.profile.specs.declared.opener.Opening.{Opening}
-use Rattle.profile.specs.declared.opener.Opening.TheVariants as opening
 use Rattle.profile.specs.Opening.{is_deep, narrow, open_of}
 use Rattle.profile.specs.Request.{beyond_by, beyond, taken, refused, answered}
 use Rattle.profile.specs.Lists.{rows_of, taken_of}
@@ -34,32 +33,32 @@ unfolding is_deep model_of
 method_by r t true h = rw h (deep_beyond _)
 method_by r t false h = rw h near_taken
 
-opened_deep : (r : Record) (s : Satellite) → O.open_of r ≡ full.Opened s → beyond s ≡ is_deep (elements_of r)
+opened_deep : (r : Record) (s : Satellite) → O.open_of r ≡ Ok s → beyond s ≡ is_deep (elements_of r)
 opened_deep r s e = let m = made r s e in ap (λ (k : Model). beyond_by k.method) m.model ∙ method_by r m.when (is_deep (elements_of r)) refl
 
-newly_near : (r : Record) (s : Satellite) → O.open_of r ≡ full.Opened s → is_deep (elements_of r) ≡ false → s ≡ near_satellite s.model.near s.model.epoch
+newly_near : (r : Record) (s : Satellite) → O.open_of r ≡ Ok s → is_deep (elements_of r) ≡ false → s ≡ near_satellite s.model.near s.model.epoch
 newly_near r s e h = (made r s e).newly_opened ∙ ap newly (sym (near_model_lem s.model (opened_deep r s e ∙ h)))
 
-abbrev Given : (NearEarth → Instant → Type 0) → Opening → Type 0
-Given P (opening.Opened n t) = P n t
-Given P (opening.Refused why) = Unit {0}
+abbrev Given : (NearEarth → Instant → Type 0) → Result (NearEarth × Instant) Refusal → Type 0
+Given P (Ok (n, t)) = P n t
+Given P (Err why) = Unit {0}
 
-opens_by : (r : Record) (b : Bool) (o : full-opening.Opening) → is_deep (elements_of r) ≡ b → O.open_of r ≡ o
-    → Given (λ n t. O.open_of r ≡ full.Opened (near_satellite n t)) (narrow b o)
+opens_by : (r : Record) (b : Bool) (o : Result Satellite FullRefusal) → is_deep (elements_of r) ≡ b → O.open_of r ≡ o
+    → Given (λ n t. O.open_of r ≡ Ok (near_satellite n t)) (narrow b o)
 unfolding narrow
-opens_by r true (full.Opened s) hb ho = tt
-opens_by r false (full.Opened s) hb ho = ho ∙ ap full.Opened (newly_near r s ho hb)
-opens_by r b (full.Refused full-refusal.Record) hb ho = tt
-opens_by r b (full.Refused full-refusal.Perigee) hb ho = tt
-opens_by r true (full.Refused full-refusal.NotFinite) hb ho = tt
-opens_by r false (full.Refused full-refusal.NotFinite) hb ho = tt
+opens_by r true (Ok s) hb ho = tt
+opens_by r false (Ok s) hb ho = ho ∙ ap Ok (newly_near r s ho hb)
+opens_by r b (Err full-refusal.Record) hb ho = tt
+opens_by r b (Err full-refusal.Perigee) hb ho = tt
+opens_by r true (Err full-refusal.NotFinite) hb ho = tt
+opens_by r false (Err full-refusal.NotFinite) hb ho = tt
 
-opens_all : (r : Record) → Given (λ n t. O.open_of r ≡ full.Opened (near_satellite n t)) (open_of r)
+opens_all : (r : Record) → Given (λ n t. O.open_of r ≡ Ok (near_satellite n t)) (open_of r)
 unfolding open_of
 opens_all r = opens_by r (is_deep (elements_of r)) (O.open_of r) refl refl
 
 pub same_opening : SameOpening
-same_opening r n t e = subst (Given (λ n t. O.open_of r ≡ full.Opened (near_satellite n t))) e (opens_all r)
+same_opening r n t e = subst (Given (λ n t. O.open_of r ≡ Ok (near_satellite n t))) e (opens_all r)
 
 pub opens_the_rest : OpensTheRest
 unfolding open_of narrow

@@ -1,18 +1,16 @@
 -- "On everything the profile takes, its answers have the same bits as the full program." Claims: proved in proofs/Same, proofs/Near and proofs/Demand3.
-use Rattle.std.specs.Prelude.{◌≡◌, refl, true, false, List, [], ◌∷◌, ℤ, pos, negsuc}
+use Rattle.std.specs.Prelude.{◌≡◌, refl, true, false, List, [], ◌∷◌, ℤ, pos, negsuc, Ok}
 use Rattle.instant.specs.declared.Instant.{Instant}
 use Rattle.tle.specs.declared.Record.{Record}
 use Rattle.satellite.specs.declared.NearEarth.{NearEarth}
 use Rattle.satellite.specs.declared.Method.TheVariants as methods
 use Rattle.resonance.specs.declared.place.Place.{Place}
 use Rattle.opening.specs.declared.opening.Satellite.{Satellite}
-use Rattle.opening.specs.declared.opening.Opening.TheVariants as full
 use Rattle.opening.specs.Elements.{elements_of}
 use Rattle.opening.specs.Opening as O
 use Rattle.requests.specs.Request as F
 use Rattle.requests.specs.Lists.{rows_from, strides_from, satellite_from}
 use Rattle.storage.specs.Near.{near_satellite}
-use Rattle.profile.specs.declared.opener.Opening.TheVariants as opening
 use Rattle.profile.specs.Opening.{is_deep, open_of}
 use Rattle.profile.specs.Request.{beyond, taken, answered}
 use Rattle.profile.specs.Lists.{rows_of, satellite_after}
@@ -23,15 +21,15 @@ use Rattle.profile.specs.Demand3.{Request, Demand3}
 
 -- what the profile opens, the full program opens to the same satellite
 abbrev pub SameOpening : Type 0
-SameOpening = (r : Record) (n : NearEarth) (t : Instant) → open_of r ≡ opening.Opened n t → O.open_of r ≡ full.Opened (near_satellite n t)
+SameOpening = (r : Record) (n : NearEarth) (t : Instant) → open_of r ≡ Ok (n, t) → O.open_of r ≡ Ok (near_satellite n t)
 
 -- what the full program opens, the profile opens unless it is deep space; and of those satellites exactly these are beyond it
 pub record OpensOthers (r : Record) (s : Satellite) : Type 0 where
-  pub opens : is_deep (elements_of r) ≡ false → open_of r ≡ opening.Opened s.model.near s.model.epoch
+  pub opens : is_deep (elements_of r) ≡ false → open_of r ≡ Ok (s.model.near, s.model.epoch)
   pub deep : beyond s ≡ is_deep (elements_of r)
 
 abbrev pub OpensTheRest : Type 0
-OpensTheRest = (r : Record) (s : Satellite) → O.open_of r ≡ full.Opened s → OpensOthers r s
+OpensTheRest = (r : Record) (s : Satellite) → O.open_of r ≡ Ok s → OpensOthers r s
 
 -- ── requests, of every satellite handed in ──
 

@@ -24,13 +24,6 @@ pub enum Refusal {
     NotFinite,
 }
 
-// What the satellite of a record is made of, and its epoch.
-#[derive(Clone, Copy)]
-pub enum Opening {
-    Opened(NearEarth, Instant),
-    Refused(Refusal),
-}
-
 impl Refusal {
     // The documents' number of the refusal.
     pub fn number(self) -> u64
@@ -47,31 +40,31 @@ impl Refusal {
 
 // Every number but the Greenwich angle, which at an instant of the calendar is finite (crate
 // finite_angle); no other instant comes here.
-fn checked(near: NearEarth, t: Instant) -> Opening
+fn checked(near: NearEarth, t: Instant) -> Result<(NearEarth, Instant), Refusal>
     requires { in_calendar t.0 ≡ true }
     ensures { result ≡ O.near_checked near t }
 {
     if finite_near(near) {
-        return Opening::Opened(near, t);
+        return Ok((near, t));
     }
-    Opening::Refused(Refusal::NotFinite)
+    Err(Refusal::NotFinite)
 }
 
-fn above(el: Elements, i: Initl, t: Instant) -> Opening
+fn above(el: Elements, i: Initl, t: Instant) -> Result<(NearEarth, Instant), Refusal>
     requires { in_calendar t.0 ≡ true }
     ensures { result ≡ O.narrow (deep_space i) (F.above el i t (epoch_days_of t.0) (greenwich_of t.0)) }
 {
     if i.rp < 1.0 {
-        return Opening::Refused(Refusal::Perigee);
+        return Err(Refusal::Perigee);
     }
     if is_deep_space(i) {
-        return Opening::Refused(Refusal::DeepSpace);
+        return Err(Refusal::DeepSpace);
     }
     let near = near_earth(el, i, false);
     checked(near, t)
 }
 
-fn started(el: Elements, t: Instant) -> Opening
+fn started(el: Elements, t: Instant) -> Result<(NearEarth, Instant), Refusal>
     requires { in_calendar t.0 ≡ true }
     ensures { result ≡ O.narrow (O.is_deep el) (F.started el t) }
 {
@@ -79,28 +72,28 @@ fn started(el: Elements, t: Instant) -> Opening
     above(el, i, t)
 }
 
-fn dated(r: Record, epoch: instant::Epoch) -> Opening
+fn dated(r: Record, epoch: Option<Instant>) -> Result<(NearEarth, Instant), Refusal>
     requires { epoch ≡ epoch_of r.year r.day }
     ensures { result ≡ O.narrowed r (F.dated r epoch) }
 {
     match epoch {
-        instant::Epoch::At(t) => started(elements_of(r), t),
-        instant::Epoch::Outside => Opening::Refused(Refusal::Record),
+        Some(t) => started(elements_of(r), t),
+        None => Err(Refusal::Record),
     }
 }
 
 // Opens a record that reading gave: such a record is legal and need not be judged again.
-pub fn open_read(r: Record) -> Opening
+pub fn open_read(r: Record) -> Result<(NearEarth, Instant), Refusal>
     ensures { result ≡ O.open_read_of r }
 {
     dated(r, epoch_instant(r.year, r.day))
 }
 
-pub fn open(r: Record) -> Opening
+pub fn open(r: Record) -> Result<(NearEarth, Instant), Refusal>
     ensures { result ≡ O.open_of r }
 {
     if legal(r) {
         return open_read(r);
     }
-    Opening::Refused(Refusal::Record)
+    Err(Refusal::Record)
 }

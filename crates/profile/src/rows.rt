@@ -46,7 +46,8 @@ fn row_at(near: NearEarth, t: Microseconds) -> Row
     refused_row(33)
 }
 
-// A row's position and velocity, at an index of a room.
+// A row's position and velocity, at an index of a room. As in crate requests, whose functions are private:
+// no public function has a `requires` (docs/DECISIONS.md).
 fn put_state(states: &mut [f64], at: usize, row: Row)
     requires { at + 6 ≤ length states.old }
     ensures { states.new ≡ sets states.old at (state_of row) }
@@ -117,13 +118,10 @@ fn fill(
     ensures { R.Filled near times.now refusals.old states.old rounds.old result refusals.new states.new rounds.new }
 {
     let mut any = false;
-    let mut i = 0;
-    while i < times.len() {
-        let t = times[i];
-        let row = row_at(near, Microseconds(t));
-        put_row(refusals, states, rounds, i, row);
-        any |= is_taken(Microseconds(t));
-        i += 1;
+    for (i, t) in times.iter().enumerate() {
+        let t = Microseconds(*t);
+        put_row(refusals, states, rounds, i, row_at(near, t));
+        any |= is_taken(t);
     }
     any
 }

@@ -12,8 +12,7 @@ use Rattle.instant.specs.declared.Instant.{Instant}
 use Rattle.tle.specs.declared.Refusal.{Refusal}
 use Rattle.tle.specs.declared.Refusal.TheVariants as read
 use Rattle.tle.specs.declared.Record.{Record}
-use Rattle.tle.specs.declared.Reading.{Reading}
-use Rattle.tle.specs.declared.Reading.TheVariants as reading
+use Rattle.std.specs.Prelude.{Err, Ok, Result}
 use Rattle.tle.specs.Read.{read_of}
 use Rattle.satellite.specs.declared.NearEarth.{NearEarth}
 use Rattle.resonance.specs.declared.place.Place.{Place}
@@ -26,10 +25,9 @@ use Rattle.storage.specs.Storage.{satellite_of, model_at, place_at, near_earth_a
 use Rattle.storage.specs.Near.{near_satellite, near_short, near_refusal, near_stored_numbers, near_stored_marks}
 use Rattle.storage.proofs.Short.{enough}
 use Rattle.storing.proofs.Kept.{kept}
+use Rattle.profile.specs.declared.opener.Refusal.{Refusal as ProfileRefusal}
 use Rattle.profile.specs.declared.opener.Refusal as P
 use Rattle.profile.specs.declared.opener.Refusal.TheVariants as refusal
-use Rattle.profile.specs.declared.opener.Opening.{Opening}
-use Rattle.profile.specs.declared.opener.Opening.TheVariants as opening
 use Rattle.profile.specs.Opening.{number, open_of}
 use Rattle.profile.specs.Request.{beyond, taken, answered, settled}
 use Rattle.profile.specs.Lists.{keep_if, taken_of, any_taken, satellite_after}
@@ -218,7 +216,7 @@ long_enough false e = refl
 record Opened (r : Record) (m : Memory) : Type 0 where
   near : NearEarth
   epoch : Instant
-  opens : open_of r ≡ opening.Opened near epoch
+  opens : open_of r ≡ Ok (near, epoch)
   holds : Holds m (near_satellite near epoch)
 
 stored : (n : NearEarth) (t : Instant) (ns : List Float) (ms : List ℕ) → near_short (length ns) (length ms) ≡ false
@@ -226,17 +224,17 @@ stored : (n : NearEarth) (t : Instant) (ns : List Float) (ms : List ℕ) → nea
 unfolding near_stored_numbers near_stored_marks
 stored n t ns ms h = rw h (opened_holds n t ns ms)
 
-opened_by : (r : Record) (o : Opening) (ns : List Float) (ms : List ℕ) → open_of r ≡ o → opened_answer o (length ns) (length ms) ≡ 0
+opened_by : (r : Record) (o : Result (NearEarth × Instant) ProfileRefusal) (ns : List Float) (ms : List ℕ) → open_of r ≡ o → opened_answer o (length ns) (length ms) ≡ 0
     → Opened r (record { numbers = opened_numbers o ns ms; marks = opened_marks o ns ms })
 unfolding opened_answer opened_numbers opened_marks near_refusal
-opened_by r (opening.Opened n t) ns ms h e = record { near = n; epoch = t; opens = h; holds = stored n t ns ms (long_enough (near_short (length ns) (length ms)) e) }
-opened_by r (opening.Refused why) ns ms h e = absurd (number_not why e)
+opened_by r (Ok (n, t)) ns ms h e = record { near = n; epoch = t; opens = h; holds = stored n t ns ms (long_enough (near_short (length ns) (length ms)) e) }
+opened_by r (Err why) ns ms h e = absurd (number_not why e)
 
-read_by : (x : Reading) (ns : List Float) (ms : List ℕ) → open_answer x (length ns) (length ms) ≡ 0
-    → (r : Record) × (x ≡ reading.Record r) × Opened r (record { numbers = open_numbers x ns ms; marks = open_marks x ns ms })
+read_by : (x : Result Record Refusal) (ns : List Float) (ms : List ℕ) → open_answer x (length ns) (length ms) ≡ 0
+    → (r : Record) × (x ≡ Ok r) × Opened r (record { numbers = open_numbers x ns ms; marks = open_marks x ns ms })
 unfolding open_answer open_numbers open_marks
-read_by (reading.Record r) ns ms e = (r, refl, opened_by r (open_of r) ns ms refl e)
-read_by (reading.Refused why) ns ms e = absurd (refusal_not why e)
+read_by (Ok r) ns ms e = (r, refl, opened_by r (open_of r) ns ms refl e)
+read_by (Err why) ns ms e = absurd (refusal_not why e)
 
 pub sequences : Sequences
 sequences line1 line2 m cs last e d =

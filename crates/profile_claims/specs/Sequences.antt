@@ -1,11 +1,9 @@
 -- Whole sequences of the profile's calls on lent memory: demand 3 as it reads for the profile. Definitions only. The theorem is `sequences` of
 -- proofs/Sequences.
-use Rattle.std.specs.Prelude.{ℕ, ◌≡◌, Bool, false, cond, List, [], ◌∷◌, map, ltb, ℤ, length, Float}
+use Rattle.std.specs.Prelude.{ℕ, ◌≡◌, Bool, false, cond, List, [], ◌∷◌, map, ltb, ℤ, length, Float, Ok}
 use Rattle.tle.specs.declared.Record.{Record}
-use Rattle.tle.specs.declared.Reading.TheVariants as reading
 use Rattle.tle.specs.Read.{read_of}
 use Rattle.opening.specs.declared.opening.Satellite.{Satellite}
-use Rattle.opening.specs.declared.opening.Opening.TheVariants as full
 use Rattle.opening.specs.Opening as O
 use Rattle.requests.specs.Lists.{list_refusal, list_times, refusals_of, states_of, rounds_of, over}
 use Rattle.lent_requests.specs.Requests.{row_put}
@@ -64,8 +62,8 @@ Told s (c ∷ cs) = Tells s c × Told s cs
 pub record Sequence (line1 line2 : List ℕ) (opened : Memory) (cs : List Call) (last : Memory) : Type 0 where
   pub source : Record
   pub satellite : Satellite
-  pub reads : read_of line1 line2 ≡ reading.Record source
-  pub opens : O.open_of source ≡ full.Opened satellite
+  pub reads : read_of line1 line2 ≡ Ok source
+  pub opens : O.open_of source ≡ Ok satellite
   pub near : beyond satellite ≡ false
   pub told : Told satellite cs
   pub kept : last ≡ opened

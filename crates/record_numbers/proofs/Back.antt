@@ -21,12 +21,12 @@ use Rattle.tle.specs.Read.{letter}
 use Rattle.tle_writer.proofs.Facts.{Held, both, formed, legal_in_form}
 use Rattle.tle_writer.proofs.Values.{class_value}
 use Rattle.tle.proofs.Meaning.{forms_yield, gone_on_lem}
-use Rattle.record_numbers.specs.declared.Judged.TheVariants as judged
 use Rattle.record_numbers.specs.Numbers.{places_of, numbers_of, whole, byte, designator_from, designator_at, at, record_at, Small, is_class, given_of, store_refusal, stored_over, fields_refusal, fields_over, judged_of}
 use Rattle.record_numbers.specs.Back.{StoredIsGiven, JudgedAsRead, GivenIsStored}
 use Rattle.record_numbers.specs.declared.Places.{Places}
-use Rattle.record_numbers.specs.declared.Given.{Given}
-use Rattle.record_numbers.specs.declared.Given.TheVariants.{Fields, NoClass, TooShort}
+use Rattle.std.specs.Prelude.{Err, Ok, Result, Some}
+use Rattle.record_numbers.specs.declared.GivenRefusal.{GivenRefusal}
+use Rattle.record_numbers.specs.declared.GivenRefusal.TheVariants as given_refusal
 use Rattle.record_numbers.proofs.Small.{class_byte, places_small, small}
 
 -- ── a record's numbers give the record ──
@@ -97,9 +97,9 @@ class_at : (r : Record) (ns : List ℤ) → is_class (byte (at (numbers_of r ++ 
 unfolding numbers_of
 class_at r ns = ap is_class (letter_back r.class) ∙ class_is r.class
 
-given_back : (r : Record) (ns : List ℤ) → Held r → given_of (numbers_of r ++ ns) ≡ Fields r
+given_back : (r : Record) (ns : List ℤ) → Held r → given_of (numbers_of r ++ ns) ≡ Ok r
 unfolding given_of
-given_back r ns k = rw (long r ns, class_at r ns) (ap Fields (record_back r ns k))
+given_back r ns k = rw (long r ns, class_at r ns) (ap Ok (record_back r ns k))
 
 pub stored_is_given : StoredIsGiven
 unfolding stored_over store_refusal
@@ -110,7 +110,7 @@ unfolding judged_of fields_over fields_refusal
 judged_as_read line1 line2 f ns e k =
     let h = (forms_yield line1 line2 f e).0 in
     rw (h, le-ltb (length ns) 22 k, given_back f.0 (drop 22 ns) (formed f.0 h))
-    (ap judged.Meaning (gone_on_lem line1 line2 (sym e) refl (ap meaning_of (sym (forms_yield line1 line2 f e).1))))
+    (ap Some (gone_on_lem line1 line2 (sym e) refl (ap meaning_of (sym (forms_yield line1 line2 f e).1))))
 
 -- ── numbers that give a legal record are the record's ──
 
@@ -155,12 +155,12 @@ taken_from k (suc n) ns h =
 placed : (n a b c : ℕ) → places_of (designator_from n a b c) ≡ record { launch = n; a = a; b = b; c = c }
 placed n a b c = places_back (eqb n 0) (eqb a 32) (eqb b 32) (eqb c 32) n a b c refl refl refl refl
 
-abbrev fields_or : Record → Given → Record
-fields_or d (Fields r) = r
-fields_or d NoClass = d
-fields_or d TooShort = d
+abbrev fields_or : Record → Result Record GivenRefusal → Record
+fields_or d (Ok r) = r
+fields_or d (Err given_refusal.NoClass) = d
+fields_or d (Err given_refusal.TooShort) = d
 
-given_by : (s k : Bool) (x r : Record) → cond s TooShort (cond k (Fields x) NoClass) ≡ Fields r → (s ≡ false) × (k ≡ true) × (x ≡ r)
+given_by : (s k : Bool) (x r : Record) → cond s (Err given_refusal.TooShort) (cond k (Ok x) (Err given_refusal.NoClass)) ≡ Ok r → (s ≡ false) × (k ≡ true) × (x ≡ r)
 given_by true k x r e = let z : ◌≡◌ {A = ℕ} 0 1 = cc in absurd (omega arith)
 given_by false true x r e = (refl, refl, ap (fields_or r) e)
 given_by false false x r e = let z : ◌≡◌ {A = ℕ} 0 1 = cc in absurd (omega arith)

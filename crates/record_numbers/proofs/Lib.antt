@@ -1,4 +1,3 @@
 pub mod Signed
-pub mod Front
 pub mod Small
 pub mod Back

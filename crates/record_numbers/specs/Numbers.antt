@@ -3,7 +3,7 @@
 --   0 number; 1 class, the byte of its letter; 2 launch and 3-5 the three places of the designator, as bytes; 6 year; 7 day;
 --   8 ndot; 9-10 nddot, mantissa and exponent; 11-12 bstar, the same; 13 type; 14 set; 15 inclination; 16 node;
 --   17 eccentricity; 18 perigee; 19 anomaly; 20 motion; 21 revolution
-use Rattle.std.specs.Prelude.{ℕ, ◌+◌, ◌<◌, ◌^◌, Bool, cond, ◌&&◌, ◌||◌, List, [], ◌∷◌, ◌++◌, eqb, ltb, ℤ, pos, negsuc, nat_abs, length, drop, get_or}
+use Rattle.std.specs.Prelude.{ℕ, ◌+◌, ◌<◌, ◌^◌, Bool, cond, ◌&&◌, ◌||◌, List, [], ◌∷◌, ◌++◌, eqb, ltb, ℤ, pos, negsuc, nat_abs, length, drop, get_or, Err, None, Ok, Option, Result, Some}
 use Prim.Native.Char.{code}
 use Rattle.tle.specs.Legal.{in_form, legal}
 use Rattle.tle.specs.Read.{class_of, letter, given, meaning_of}
@@ -13,12 +13,10 @@ use Rattle.tle.specs.declared.Scaled.{Scaled}
 use Rattle.tle.specs.declared.Record.{Record}
 use Rattle.tle.specs.declared.Fields as tle-fields
 use Rattle.tle.specs.declared.Refusal.TheVariants.{NoForm}
-use Rattle.tle.specs.declared.Reading.TheVariants as reading
+use Rattle.record_numbers.specs.declared.GivenRefusal.{GivenRefusal}
+use Rattle.record_numbers.specs.declared.GivenRefusal.TheVariants as given_refusal
+use Rattle.tle.specs.declared.Refusal.{Refusal}
 use Rattle.record_numbers.specs.declared.Places.{Places}
-use Rattle.record_numbers.specs.declared.Given.{Given}
-use Rattle.record_numbers.specs.declared.Given.TheVariants.{Fields, NoClass, TooShort}
-use Rattle.record_numbers.specs.declared.Judged.{Judged}
-use Rattle.record_numbers.specs.declared.Judged.TheVariants as judged
 
 -- ── the numbers of a record ──
 
@@ -94,14 +92,14 @@ unfoldable pub is_class : ℕ → Bool
 is_class b = eqb b (code "U") || eqb b (code "C") || eqb b (code "S")
 
 -- fewer than 22 numbers hold no record
-unfoldable pub given_of : List ℤ → Given
-given_of ns = cond (ltb (length ns) 22) TooShort (cond (is_class (byte (at ns 1))) (Fields (record_at ns)) NoClass)
+unfoldable pub given_of : List ℤ → Result Record GivenRefusal
+given_of ns = cond (ltb (length ns) 22) (Err given_refusal.TooShort) (cond (is_class (byte (at ns 1))) (Ok (record_at ns)) (Err given_refusal.NoClass))
 
 -- document 01's number of each answer; nothing comes back with it
-abbrev pub number_of : Given → ℕ
-number_of (Fields r) = 0
-number_of NoClass = 16
-number_of TooShort = 17
+abbrev pub number_of : Result Record GivenRefusal → ℕ
+number_of (Ok r) = 0
+number_of (Err given_refusal.NoClass) = 16
+number_of (Err given_refusal.TooShort) = 17
 
 -- ── what storing leaves: refusal 16, then 17, and nothing is written ──
 
@@ -123,10 +121,10 @@ unfoldable pub fields_over : tle-fields.Fields → List ℤ → List ℤ
 fields_over f ns = cond (eqb (fields_refusal f (length ns)) 0) (numbers_of f.0 ++ drop 22 ns) ns
 
 -- what the fields of numbers mean; a class that is none is in no form
-abbrev pub judged_by : Given → Judged
-judged_by (Fields r) = judged.Meaning (meaning_of (given r))
-judged_by NoClass = judged.Meaning (reading.Refused NoForm)
-judged_by TooShort = judged.TooShort
+abbrev pub judged_by : Result Record GivenRefusal → Option (Result Record Refusal)
+judged_by (Ok r) = Some (meaning_of (given r))
+judged_by (Err given_refusal.NoClass) = Some (Err NoForm)
+judged_by (Err given_refusal.TooShort) = None
 
-unfoldable pub judged_of : List ℤ → Judged
+unfoldable pub judged_of : List ℤ → Option (Result Record Refusal)
 judged_of ns = judged_by (given_of ns)

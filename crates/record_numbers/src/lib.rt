@@ -2,33 +2,29 @@
 // the layout.
 #![tactic(auto)]
 
-ghost use Rattle.std.specs.Prelude.{◌≡◌, ◌++◌, ◌+◌, ◌<◌, ◌≤◌, ◌^◌, pos, length, drop};
+ghost use Rattle.std.specs.Prelude.{◌≡◌, true, cond, eqb, ltb, ◌++◌, ◌+◌, ◌<◌, ◌≤◌, ◌^◌, pos, length, drop};
 ghost use Rattle.tle.specs.Read.{letter};
 ghost use Rattle.record_numbers.specs.Numbers as N;
 
-use tle::{
-    Class, Designator, Fields, Reading, Record, Refusal, Scaled, in_form, legal, read_meaning,
-};
+use tle::{Class, Designator, Fields, Record, Refusal, Scaled, in_form, legal, read_meaning};
 
-// What numbers give: a record, legal or not; 16, since the class is none; 17, since there are fewer
-// than 22.
+// Why numbers give no record: the class is none, or there are fewer than 22.
 #[derive(Clone, Copy)]
-pub enum Given {
-    Fields(Record),
+pub enum GivenRefusal {
+    // 16
     NoClass,
+    // 17
     TooShort,
 }
 
-impl Given {
-    // Document 01's number of the refusal, 0 where there is a record.
-    pub fn number(self) -> u8
-        ensures { result ≡ N.number_of self }
-    {
-        match self {
-            Given::Fields(_) => 0,
-            Given::NoClass => 16,
-            Given::TooShort => 17,
-        }
+// Document 01's number of the refusal, 0 where there is a record.
+pub fn given_number(given: Result<Record, GivenRefusal>) -> u8
+    ensures { result ≡ N.number_of given }
+{
+    match given {
+        Ok(_) => 0,
+        Err(GivenRefusal::NoClass) => 16,
+        Err(GivenRefusal::TooShort) => 17,
     }
 }
 
@@ -108,15 +104,21 @@ fn numbers_of(r: Record) -> [i64; 22]
     ]
 }
 
-fn put_front(values: [i64; 22], fields: &mut [i64])
-    requires { 22 ≤ length fields.old }
-    ensures { fields.new ≡ values ++ drop 22 fields.old }
+// A record's numbers at the front of the memory, where that is allowed: 0, or refusal 16 or 17
+// with nothing written.
+fn store(allowed: bool, r: Record, fields: &mut [i64]) -> u8
+    requires { allowed ≡ true → N.Small r }
+    ensures value { result ≡ cond allowed (cond (ltb (length fields.old) 22) 17 0) 16 }
+    ensures fields_after { fields.new ≡ cond (eqb result 0) (N.numbers_of r ++ drop 22 fields.old) fields.old }
 {
-    let mut i = 0;
-    while i < 22 {
-        fields[i] = values[i];
-        i += 1;
+    if !allowed {
+        return 16;
     }
+    if fields.len() < 22 {
+        return 17;
+    }
+    fields[..22].copy_from_slice(&numbers_of(r));
+    0
 }
 
 // A record's numbers at the front of the memory: 0, or refusal 16 or 17 with nothing written.
@@ -124,14 +126,7 @@ pub fn store_record(r: Record, fields: &mut [i64]) -> u8
     ensures value { result ≡ N.store_refusal r (length fields.old) }
     ensures fields_after { fields.new ≡ N.stored_over r fields.old }
 {
-    if !legal(r) {
-        return 16;
-    }
-    if fields.len() < 22 {
-        return 17;
-    }
-    put_front(numbers_of(r), fields);
-    0
+    store(legal(r), r, fields)
 }
 
 // The numbers of fields, in range or not, at the front of the memory: 0, or refusal 16 or 17 with
@@ -141,14 +136,7 @@ pub fn store_fields(f: Fields, fields: &mut [i64]) -> u8
     ensures fields_after { fields.new ≡ N.fields_over f fields.old }
 {
     let r = f.unjudged();
-    if !in_form(r) {
-        return 16;
-    }
-    if fields.len() < 22 {
-        return 17;
-    }
-    put_front(numbers_of(r), fields);
-    0
+    store(in_form(r), r, fields)
 }
 
 fn whole(x: i64) -> u64
@@ -244,33 +232,27 @@ fn is_class(b: u8) -> bool
 }
 
 // The record that the numbers at the front of the memory give, whoever wrote them.
-pub fn record_of(fields: &[i64]) -> Given
+pub fn record_of(fields: &[i64]) -> Result<Record, GivenRefusal>
     ensures { result ≡ N.given_of fields.now }
 {
     if fields.len() < 22 {
-        return Given::TooShort;
+        return Err(GivenRefusal::TooShort);
     }
     if !is_class(byte_at(fields, 1)) {
-        return Given::NoClass;
+        return Err(GivenRefusal::NoClass);
     }
-    Given::Fields(record_at(fields))
-}
-
-// What judging numbers gives: what the fields that they give mean, or 17, since there are fewer than 22.
-#[derive(Clone, Copy)]
-pub enum Judged {
-    Meaning(Reading),
-    TooShort,
+    Ok(record_at(fields))
 }
 
 // The meaning of the fields that the numbers at the front of the memory give, whoever wrote them.
-pub fn judge_numbers(fields: &[i64]) -> Judged
+#[tactic(auto, unfolding(crate::specs::Numbers::judged_of))]
+pub fn judge_numbers(fields: &[i64]) -> Option<Result<Record, Refusal>>
     ensures { result ≡ N.judged_of fields.now }
 {
     let given = record_of(fields);
     match given {
-        Given::Fields(r) => Judged::Meaning(read_meaning(Fields::of(r))),
-        Given::NoClass => Judged::Meaning(Reading::Refused(Refusal::NoForm)),
-        Given::TooShort => Judged::TooShort,
+        Ok(r) => Some(read_meaning(Fields::of(r))),
+        Err(GivenRefusal::NoClass) => Some(Err(Refusal::NoForm)),
+        Err(GivenRefusal::TooShort) => None,
     }
 }

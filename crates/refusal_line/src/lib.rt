@@ -10,7 +10,7 @@ ghost use Rattle.refusal_line.specs.Judged.{meaning_text, judged_text};
 ghost use Rattle.tle.specs.Read.{form_of};
 
 use text::{put_byte, put_bytes, put_decimal};
-use tle::{Field, Form, Line, Reading, Refusal, read_form, read_meaning};
+use tle::{Field, Line, Record, Refusal, read_form, read_meaning};
 
 fn put_field(out: &mut [u8], at: usize, field: Field) -> usize
     ensures { Put out.old at (field_text field) out.new result }
@@ -72,12 +72,12 @@ pub fn put_refusal(out: &mut [u8], at: usize, refusal: Refusal) -> usize
     put_byte(out, p, b'\n')
 }
 
-fn put_meaning(out: &mut [u8], at: usize, reading: Reading) -> usize
+fn put_meaning(out: &mut [u8], at: usize, reading: Result<Record, Refusal>) -> usize
     ensures { Put out.old at (meaning_text reading) out.new result }
 {
     match reading {
-        Reading::Record(_) => put_bytes(out, at, b"in range\n"),
-        Reading::Refused(why) => put_refusal(out, at, why),
+        Ok(_) => put_bytes(out, at, b"in range\n"),
+        Err(why) => put_refusal(out, at, why),
     }
 }
 
@@ -85,9 +85,9 @@ fn put_meaning(out: &mut [u8], at: usize, reading: Reading) -> usize
 pub fn put_judged(out: &mut [u8], at: usize, line1: &[u8], line2: &[u8]) -> usize
     ensures { Put out.old at (judged_text (form_of line1.now line2.now)) out.new result }
 {
-    let form = read_form(line1, line2);
-    let Form::Fields(fields) = form else {
-        return put_refusal(out, at, form.refusal());
+    let fields = match read_form(line1, line2) {
+        Ok(fields) => fields,
+        Err(why) => return put_refusal(out, at, why),
     };
     let p = put_bytes(out, at, b"well formed\n");
     put_meaning(out, p, read_meaning(fields))

@@ -1,6 +1,6 @@
 // A request's line answered: a `row` line for each row, or `refused` and the number for a list refused
 // whole, and a `strides` line; `malformed` for a line that is no request.
-ghost use Rattle.std.specs.Prelude.{◌≡◌, true, ◌≤◌};
+ghost use Rattle.std.specs.Prelude.{◌≡◌, true};
 
 use lent_requests::{request_held, request_list_held};
 use printing::{print_answer, print_list, refuse_list};
@@ -44,16 +44,6 @@ fn answer_list(
     print_list(rt, failed, answer, times.len(), &refusals, &states, &rounds);
 }
 
-// No list that is read is longer than the room for its times.
-fn listed(n: usize) -> usize
-    ensures { result ≤ 1100 }
-{
-    if n <= 1100 {
-        return n;
-    }
-    1100
-}
-
 pub(crate) fn answer(
     rt: HostRuntime,
     failed: &mut bool,
@@ -66,9 +56,10 @@ pub(crate) fn answer(
     let mut times = [0i64; 1100];
     match read_request(line, &mut times) {
         Request::One => answer_one(rt, failed, numbers, marks, times[0]),
+        // No list that is read is longer than the room for its times.
         Request::List(n) => {
-            let n = listed(n);
-            answer_list(rt, failed, numbers, marks, &times[0..n])
+            let n = n.min(times.len());
+            answer_list(rt, failed, numbers, marks, &times[..n])
         }
         Request::TooMany => refuse_list(rt, failed),
         Request::Malformed => print(rt, failed, b"malformed\n"),

@@ -51,10 +51,8 @@ fn open(
 
 // A line that begins with 1 begins a pair, whatever came before.
 fn stage_of(stage: Stage, line: &[u8]) -> Stage {
-    if line.len() > 0 {
-        if line[0] == b'1' {
-            return Stage::First;
-        }
+    if line.starts_with(b"1") {
+        return Stage::First;
     }
     stage
 }
@@ -89,16 +87,10 @@ fn take_line(
 
 // Lines of a pair that the input ends without are empty.
 fn wants_line(stage: Stage) -> bool {
-    match stage {
-        Stage::First => true,
-        Stage::Second(_) => true,
-        Stage::Asking => false,
-        Stage::Over => false,
-    }
+    matches!(stage, Stage::First | Stage::Second(_))
 }
 
-// A proved loop has to end, and nothing says that the input does: so it counts its turns down, from a
-// number that no run uses up.
+// A proved loop has to end, and nothing says that the input does: no run uses up so many turns.
 fn run(
     rt: HostRuntime,
     failed: &mut bool,
@@ -112,15 +104,13 @@ fn run(
 {
     let mut input = Input::start();
     let mut stage = Stage::First;
-    let mut turns = u64::MAX;
-    while turns > 0 {
+    for _ in 0..u64::MAX {
         let next = next_line(rt, failed, input, buffer, line);
         if !(next.found | wants_line(stage)) {
             return;
         }
         stage = take_line(rt, failed, stage, first, line, next.size, numbers, marks);
         input = next.input;
-        turns -= 1;
     }
 }
 

@@ -9,8 +9,9 @@ use lib.ListN.{length}
 use borrow.Author.Tests.{ltb-false}
 use Rattle.report.specs.declared.Tally.{Tally}
 use Rattle.report.specs.declared.State.{State}
-use Rattle.report.specs.declared.Report.{Report}
-use Rattle.report.specs.declared.Report.TheVariants.{Counted, TooMany, Odd}
+use Rattle.std.specs.Prelude.{Err, Ok, Result}
+use Rattle.report.specs.declared.ReportRefusal.{ReportRefusal}
+use Rattle.report.specs.declared.ReportRefusal.TheVariants as report_refusal
 use Rattle.report.specs.Report.{lines_of, Pair, pairs_of, is_odd, tally_of, most_pairs, report_of, number}
 use Rattle.report.specs.State.{no_tally, begun, fed, finished}
 use Rattle.report.specs.Claims.{joined, fed_all, CutsDoNotMatter, Told, ReportTells}
@@ -31,13 +32,13 @@ told : (pairs : List Pair) → length pairs ≤ most_pairs → Told (tally_of pa
 unfolding tally_of
 told pairs h = record { few = h; sums = adds_up pairs; bounds = bounds pairs; alone = one_accepted pairs }
 
-tally : Report → Tally
-tally (Counted t) = t
-tally TooMany = no_tally
-tally Odd = no_tally
+tally : Result Tally ReportRefusal → Tally
+tally (Ok t) = t
+tally (Err report_refusal.TooMany) = no_tally
+tally (Err report_refusal.Odd) = no_tally
 
 judged : (many odd : Bool) (pairs : List Pair) (t : Tally) → ltb most_pairs (length pairs) ≡ many
-    → cond many TooMany (cond odd Odd (Counted (tally_of pairs))) ≡ Counted t → Told t pairs
+    → cond many (Err report_refusal.TooMany) (cond odd (Err report_refusal.Odd) (Ok (tally_of pairs))) ≡ Ok t → Told t pairs
 unfolding number tally
 judged true odd pairs t e g = absurd (omega (arith, ap number g))
 judged false true pairs t e g = absurd (omega (arith, ap number g))

@@ -11,8 +11,8 @@ use Rattle.tle.specs.declared.Record as tle
 use Rattle.tle.specs.declared.Refusal.{Refusal}
 use Rattle.tle.specs.declared.Refusal.TheVariants.{Length, Start, Column, Checksum, Numbers, Range, NoForm}
 use Rattle.tle.specs.Refusals.{number_of}
-use Rattle.tle.specs.declared.Reading.{Reading}
-use Rattle.tle.specs.declared.Reading.TheVariants.{Record, Refused}
+use Rattle.std.specs.Prelude.{Err, Ok, Result}
+use Rattle.tle.specs.declared.Record.{Record}
 use Rattle.tle.proofs.Meaning.{read_refusals}
 use Rattle.report.specs.declared.Stamp.{Stamp}
 use Rattle.report.specs.declared.Kind.{Kind}
@@ -34,7 +34,7 @@ plus_one true n h = rw (lt-ltb n top h)
 plus_one false n h = omega arith
 
 -- a number of the tally that a pair with the property raises by one is the number of such pairs
-module _ (part : Tally → ℕ) (property : Reading → Bool) (each : (t : Tally) (r : Reading) → part (with_reading t r) ≡ plus (property r) (part t)) where
+module _ (part : Tally → ℕ) (property : Result Record Refusal → Bool) (each : (t : Tally) (r : Result Record Refusal) → part (with_reading t r) ≡ plus (property r) (part t)) where
   counted : (pairs : List Pair) (t : Tally) → part t + length pairs < top → part (tally_from t pairs) ≡ part t + count property pairs
   unfolding tally_from count tallied
   counted [] t h = omega arith
@@ -51,55 +51,55 @@ module _ (part : Tally → ℕ) (property : Reading → Bool) (each : (t : Tally
   all_counted : (pairs : List Pair) → part no_tally ≡ 0 → length pairs ≤ most_pairs → part (tally_from no_tally pairs) ≡ count property pairs
   all_counted pairs z h = omega (arith, counted pairs no_tally (omega arith))
 
-each_accepted : (t : Tally) (r : Reading) → (with_reading t r).accepted ≡ plus (is_accepted r) t.accepted
+each_accepted : (t : Tally) (r : Result Record Refusal) → (with_reading t r).accepted ≡ plus (is_accepted r) t.accepted
 unfolding with_reading with_kind with_refusal is_accepted plus
-each_accepted t (Record r) = refl
-each_accepted t (Refused why) = refl
+each_accepted t (Ok r) = refl
+each_accepted t (Err why) = refl
 
-each_near : (t : Tally) (r : Reading) → (with_reading t r).near ≡ plus (opens_near r) t.near
+each_near : (t : Tally) (r : Result Record Refusal) → (with_reading t r).near ≡ plus (opens_near r) t.near
 unfolding with_reading with_kind with_refusal opens_near plus
-each_near t (Record r) = refl
-each_near t (Refused why) = refl
+each_near t (Ok r) = refl
+each_near t (Err why) = refl
 
-each_deep : (t : Tally) (r : Reading) → (with_reading t r).deep ≡ plus (opens_deep r) t.deep
+each_deep : (t : Tally) (r : Result Record Refusal) → (with_reading t r).deep ≡ plus (opens_deep r) t.deep
 unfolding with_reading with_kind with_refusal opens_deep plus
-each_deep t (Record r) = refl
-each_deep t (Refused why) = refl
+each_deep t (Ok r) = refl
+each_deep t (Err why) = refl
 
-each_unopened : (t : Tally) (r : Reading) → (with_reading t r).unopened ≡ plus (opens_not r) t.unopened
+each_unopened : (t : Tally) (r : Result Record Refusal) → (with_reading t r).unopened ≡ plus (opens_not r) t.unopened
 unfolding with_reading with_kind with_refusal opens_not plus
-each_unopened t (Record r) = refl
-each_unopened t (Refused why) = refl
+each_unopened t (Ok r) = refl
+each_unopened t (Err why) = refl
 
-each_one : (t : Tally) (r : Reading) → (with_reading t r).refused.one ≡ plus (is_refused 1 r) t.refused.one
+each_one : (t : Tally) (r : Result Record Refusal) → (with_reading t r).refused.one ≡ plus (is_refused 1 r) t.refused.one
 unfolding with_reading with_kind with_refusal refused_by is_refused plus
-each_one t (Record r) = refl
-each_one t (Refused why) = refl
+each_one t (Ok r) = refl
+each_one t (Err why) = refl
 
-each_two : (t : Tally) (r : Reading) → (with_reading t r).refused.two ≡ plus (is_refused 2 r) t.refused.two
+each_two : (t : Tally) (r : Result Record Refusal) → (with_reading t r).refused.two ≡ plus (is_refused 2 r) t.refused.two
 unfolding with_reading with_kind with_refusal refused_by is_refused plus
-each_two t (Record r) = refl
-each_two t (Refused why) = refl
+each_two t (Ok r) = refl
+each_two t (Err why) = refl
 
-each_three : (t : Tally) (r : Reading) → (with_reading t r).refused.three ≡ plus (is_refused 3 r) t.refused.three
+each_three : (t : Tally) (r : Result Record Refusal) → (with_reading t r).refused.three ≡ plus (is_refused 3 r) t.refused.three
 unfolding with_reading with_kind with_refusal refused_by is_refused plus
-each_three t (Record r) = refl
-each_three t (Refused why) = refl
+each_three t (Ok r) = refl
+each_three t (Err why) = refl
 
-each_four : (t : Tally) (r : Reading) → (with_reading t r).refused.four ≡ plus (is_refused 4 r) t.refused.four
+each_four : (t : Tally) (r : Result Record Refusal) → (with_reading t r).refused.four ≡ plus (is_refused 4 r) t.refused.four
 unfolding with_reading with_kind with_refusal refused_by is_refused plus
-each_four t (Record r) = refl
-each_four t (Refused why) = refl
+each_four t (Ok r) = refl
+each_four t (Err why) = refl
 
-each_five : (t : Tally) (r : Reading) → (with_reading t r).refused.five ≡ plus (is_refused 5 r) t.refused.five
+each_five : (t : Tally) (r : Result Record Refusal) → (with_reading t r).refused.five ≡ plus (is_refused 5 r) t.refused.five
 unfolding with_reading with_kind with_refusal refused_by is_refused plus
-each_five t (Record r) = refl
-each_five t (Refused why) = refl
+each_five t (Ok r) = refl
+each_five t (Err why) = refl
 
-each_six : (t : Tally) (r : Reading) → (with_reading t r).refused.six ≡ plus (is_refused 6 r) t.refused.six
+each_six : (t : Tally) (r : Result Record Refusal) → (with_reading t r).refused.six ≡ plus (is_refused 6 r) t.refused.six
 unfolding with_reading with_kind with_refusal refused_by is_refused plus
-each_six t (Record r) = refl
-each_six t (Refused why) = refl
+each_six t (Ok r) = refl
+each_six t (Err why) = refl
 
 -- ── the earliest and the latest ──
 
@@ -113,19 +113,19 @@ some n e = by (ltb n top) refl e
 
 -- an epoch of the tally, kept by a rule that prefers one of two
 module _ (part : Tally → Stamp) (better : Stamp → Stamp → Stamp) (itself : (s : Stamp) → better s s ≡ s)
-    (each : (t : Tally) (r : tle.Record) → part (with_reading t (Record r)) ≡ better (first_stamp t.accepted (part t) (stamp_of r)) (stamp_of r))
-    (same : (t : Tally) (why : Refusal) → part (with_reading t (Refused why)) ≡ part t) where
+    (each : (t : Tally) (r : tle.Record) → part (with_reading t (Ok r)) ≡ better (first_stamp t.accepted (part t) (stamp_of r)) (stamp_of r))
+    (same : (t : Tally) (why : Refusal) → part (with_reading t (Err why)) ≡ part t) where
   -- after an accepted pair
-  kept_by : (r : Reading) (t : Tally) (stamps : List Stamp) → (t.accepted ≡ 0 → ⊥)
+  kept_by : (r : Result Record Refusal) (t : Tally) (stamps : List Stamp) → (t.accepted ≡ 0 → ⊥)
       → best better (part (with_reading t r)) stamps ≡ best better (part t) (epoch_and r stamps)
   unfolding best first_stamp
-  kept_by (Record r) t stamps h = ap (λ s. best better s stamps) (each t r ∙ rw (ne_eqb t.accepted 0 h))
-  kept_by (Refused why) t stamps h = ap (λ s. best better s stamps) (same t why)
+  kept_by (Ok r) t stamps h = ap (λ s. best better s stamps) (each t r ∙ rw (ne_eqb t.accepted 0 h))
+  kept_by (Err why) t stamps h = ap (λ s. best better s stamps) (same t why)
 
-  still : (r : Reading) (t : Tally) → (t.accepted ≡ 0 → ⊥) → (with_reading t r).accepted ≡ 0 → ⊥
+  still : (r : Result Record Refusal) (t : Tally) → (t.accepted ≡ 0 → ⊥) → (with_reading t r).accepted ≡ 0 → ⊥
   unfolding with_reading with_kind with_refusal
-  still (Record r) t h = some t.accepted
-  still (Refused why) t h = h
+  still (Ok r) t h = some t.accepted
+  still (Err why) t h = h
 
   kept : (pairs : List Pair) (t : Tally) → (t.accepted ≡ 0 → ⊥) → part (tally_from t pairs) ≡ best better (part t) (epochs_of pairs)
   unfolding tally_from tallied epochs_of best
@@ -134,14 +134,14 @@ module _ (part : Tally → Stamp) (better : Stamp → Stamp → Stamp) (itself :
       kept pairs (with_reading t (reading_of p)) (still (reading_of p) t h) ∙ kept_by (reading_of p) t (epochs_of pairs) h
 
   -- before the first one
-  first_by : (r : Reading) (t : Tally) (pairs : List Pair) → t.accepted ≡ 0 → part t ≡ no_stamp
+  first_by : (r : Result Record Refusal) (t : Tally) (pairs : List Pair) → t.accepted ≡ 0 → part t ≡ no_stamp
       → ((with_reading t r).accepted ≡ 0 → part (with_reading t r) ≡ no_stamp → part (tally_from (with_reading t r) pairs) ≡ best_of better (epochs_of pairs))
       → part (tally_from (with_reading t r) pairs) ≡ best_of better (epoch_and r (epochs_of pairs))
   unfolding with_reading with_kind with_refusal best_of first_stamp
-  first_by (Record r) t pairs z e h =
-      kept pairs (with_reading t (Record r)) (some t.accepted)
+  first_by (Ok r) t pairs z e h =
+      kept pairs (with_reading t (Ok r)) (some t.accepted)
       ∙ ap (λ s. best better s (epochs_of pairs)) (each t r ∙ rw (eq-eqb t.accepted 0 z) (itself (stamp_of r)))
-  first_by (Refused why) t pairs z e h = h z (same t why ∙ e)
+  first_by (Err why) t pairs z e h = h z (same t why ∙ e)
 
   first_kept : (pairs : List Pair) (t : Tally) → t.accepted ≡ 0 → part t ≡ no_stamp → part (tally_from t pairs) ≡ best_of better (epochs_of pairs)
   unfolding tally_from tallied epochs_of best_of
@@ -160,19 +160,19 @@ later_itself : (s : Stamp) → later s s ≡ s
 unfolding later
 later_itself s = either (ltb s.at s.at) s
 
-each_earliest : (t : Tally) (r : tle.Record) → (with_reading t (Record r)).earliest ≡ earlier (first_stamp t.accepted t.earliest (stamp_of r)) (stamp_of r)
+each_earliest : (t : Tally) (r : tle.Record) → (with_reading t (Ok r)).earliest ≡ earlier (first_stamp t.accepted t.earliest (stamp_of r)) (stamp_of r)
 unfolding with_reading with_kind
 each_earliest t r = refl
 
-each_latest : (t : Tally) (r : tle.Record) → (with_reading t (Record r)).latest ≡ later (first_stamp t.accepted t.latest (stamp_of r)) (stamp_of r)
+each_latest : (t : Tally) (r : tle.Record) → (with_reading t (Ok r)).latest ≡ later (first_stamp t.accepted t.latest (stamp_of r)) (stamp_of r)
 unfolding with_reading with_kind
 each_latest t r = refl
 
-same_earliest : (t : Tally) (why : Refusal) → (with_reading t (Refused why)).earliest ≡ t.earliest
+same_earliest : (t : Tally) (why : Refusal) → (with_reading t (Err why)).earliest ≡ t.earliest
 unfolding with_reading with_refusal
 same_earliest t why = refl
 
-same_latest : (t : Tally) (why : Refusal) → (with_reading t (Refused why)).latest ≡ t.latest
+same_latest : (t : Tally) (why : Refusal) → (with_reading t (Err why)).latest ≡ t.latest
 unfolding with_reading with_refusal
 same_latest t why = refl
 
@@ -197,22 +197,22 @@ tally_counts pairs h = λ i. record {
 
 -- ── the headings ──
 
-abbrev sum : Reading → ℕ
+abbrev sum : Result Record Refusal → ℕ
 sum r = R.one (is_accepted r)
     + (R.one (is_refused 1 r) + (R.one (is_refused 2 r) + (R.one (is_refused 3 r)
     + (R.one (is_refused 4 r) + (R.one (is_refused 5 r) + R.one (is_refused 6 r))))))
 
 -- of a reading that is refused with 1 to 6 alone
-one_heading : (r : Reading) → ((why : Refusal) → r ≡ Refused why → number_of why ≤ 6) → sum r ≡ 1
+one_heading : (r : Result Record Refusal) → ((why : Refusal) → r ≡ Err why → number_of why ≤ 6) → sum r ≡ 1
 unfolding is_accepted is_refused
-one_heading (Record r) h = refl
-one_heading (Refused (Length l)) h = refl
-one_heading (Refused (Start l)) h = refl
-one_heading (Refused (Column l k)) h = refl
-one_heading (Refused (Checksum l)) h = refl
-one_heading (Refused Numbers) h = refl
-one_heading (Refused (Range f)) h = refl
-one_heading (Refused NoForm) h = absurd (omega (arith, h NoForm refl))
+one_heading (Ok r) h = refl
+one_heading (Err (Length l)) h = refl
+one_heading (Err (Start l)) h = refl
+one_heading (Err (Column l k)) h = refl
+one_heading (Err (Checksum l)) h = refl
+one_heading (Err Numbers) h = refl
+one_heading (Err (Range f)) h = refl
+one_heading (Err NoForm) h = absurd (omega (arith, h NoForm refl))
 
 kind_heading : (k : Kind) → R.one (is_near k) + (R.one (is_deep k) + R.one (is_unopened k)) ≡ 1
 unfolding is_near is_deep is_unopened
@@ -220,10 +220,10 @@ kind_heading Near = refl
 kind_heading Deep = refl
 kind_heading Unopened = refl
 
-open_heading : (r : Reading) → R.one (opens_near r) + (R.one (opens_deep r) + R.one (opens_not r)) ≡ R.one (is_accepted r)
+open_heading : (r : Result Record Refusal) → R.one (opens_near r) + (R.one (opens_deep r) + R.one (opens_not r)) ≡ R.one (is_accepted r)
 unfolding is_accepted opens_near opens_deep opens_not
-open_heading (Record r) = kind_heading (kind_of r)
-open_heading (Refused why) = refl
+open_heading (Ok r) = kind_heading (kind_of r)
+open_heading (Err why) = refl
 
 pub adds_up : (pairs : List Pair) → AddsUp (tally_of pairs) pairs
 unfolding count tally_of

@@ -11,11 +11,10 @@ use Rattle.satellite.specs.declared.Method.{Method}
 use Rattle.satellite.specs.declared.Method.TheVariants as method
 use Rattle.satellite.specs.declared.Resonance.{Resonance}
 use Rattle.satellite.specs.declared.Resonance.TheVariants as resonance
+use Rattle.opening.specs.declared.opening.Refusal.{Refusal as OpeningRefusal}
 use Rattle.opening.specs.declared.opening.Satellite.{Satellite}
-use Rattle.opening.specs.declared.opening.Refusal.{Refusal}
 use Rattle.opening.specs.declared.opening.Refusal.TheVariants as refusal
-use Rattle.opening.specs.declared.opening.Opening.{Opening}
-use Rattle.opening.specs.declared.opening.Opening.TheVariants as opening
+use Rattle.std.specs.Prelude.{Err, Ok, Result}
 use Rattle.opening.specs.Opening.{number, opened}
 use Rattle.storage.specs.Storage.{resonance_mark, method_mark, place_marks, model_marks, marks_of, too_short, store_refusal, stored_marks}
 use Rattle.answers.specs.Answer.{answer}
@@ -45,20 +44,20 @@ room : (n m : ℕ) → n ≡ 83 → m ≡ 6 → answer (store_refusal n m) 0 0 0
 unfolding store_refusal too_short answer
 room n m h k = ap (λ (x : ℕ). answer (store_refusal x m) 0 0 0) h ∙ ap (λ (x : ℕ). answer (store_refusal 83 x) 0 0 0) k
 
-by_refusal : (why : Refusal) (mark : ℕ) → marked_kind (answer (number why) 0 0 0) mark ≡ Unopened
+by_refusal : (why : OpeningRefusal) (mark : ℕ) → marked_kind (answer (number why) 0 0 0) mark ≡ Unopened
 unfolding marked_kind number answer
 by_refusal refusal.Record mark = refl
 by_refusal refusal.Perigee mark = refl
 by_refusal refusal.NotFinite mark = refl
 
-by_opening : (o : Opening) (ns : List Float) (ms : List ℕ) → length ns ≡ 83 → length ms ≡ 6
+by_opening : (o : Result Satellite OpeningRefusal) (ns : List Float) (ms : List ℕ) → length ns ≡ 83 → length ms ≡ 6
     → marked_kind (open_answer (opened o) (length ns) (length ms)) (get_or (open_marks (opened o) ns ms) 3 0) ≡ opened_kind o
 unfolding opened open_answer open_marks opened_kind marked_kind
-by_opening (opening.Opened s) ns ms h k =
+by_opening (Ok s) ns ms h k =
     ap (λ (a : ℕ). marked_kind a (get_or (stored_marks s ns ms) 3 0)) (room (length ns) (length ms) h k)
     ∙ ap (λ (x : ℕ). marked_kind 0 x) (kind_mark s ns ms h k)
     ∙ by_method s.model.method
-by_opening (opening.Refused why) ns ms h k = by_refusal why (get_or ms 3 0)
+by_opening (Err why) ns ms h k = by_refusal why (get_or ms 3 0)
 
 -- memory as the report lends it
 abbrev no_numbers : List Float
@@ -68,7 +67,7 @@ abbrev no_marks : List ℕ
 no_marks = replicate 6 0
 
 -- of the answer and the marks that the call left
-pub judged : (o : Opening) (a : ℕ) (marks : List ℕ) → a ≡ open_answer (opened o) 83 6 → marks ≡ open_marks (opened o) no_numbers no_marks
+pub judged : (o : Result Satellite OpeningRefusal) (a : ℕ) (marks : List ℕ) → a ≡ open_answer (opened o) 83 6 → marks ≡ open_marks (opened o) no_numbers no_marks
     → marked_kind a (get_or marks 3 0) ≡ opened_kind o
 judged o a marks e m =
     ap (λ (x : ℕ). marked_kind x (get_or marks 3 0)) e

@@ -5,5 +5,4 @@ pub mod Pairs
 pub mod Times
 pub mod LineEnds
 pub mod Claims
-pub mod Front
 mod Judged

@@ -8,8 +8,9 @@ use lib.Dec.{ltb}
 use lib.ListN.{length, get_or}
 use borrow.Author.Tests.{ltb-true, ltb-false}
 use Rattle.tle.specs.declared.Record as tle
-use Rattle.tle.specs.declared.Reading.{Reading}
-use Rattle.tle.specs.declared.Reading.TheVariants.{Record, Refused}
+use Rattle.std.specs.Prelude.{Err, Ok, Result}
+use Rattle.tle.specs.declared.Record.{Record}
+use Rattle.tle.specs.declared.Refusal.{Refusal}
 use Rattle.tle.proofs.Accepted.{accepted_are_legal, epochs_inside}
 use Rattle.report.specs.declared.Stamp.{Stamp}
 use Rattle.report.specs.Report.{Pair, reading_of, is_accepted, one, count, instant_of, stamp_of, earlier, later, no_stamp, epoch_and, epochs_of, best, best_of, span_of, tally_of}
@@ -26,12 +27,12 @@ further p e = record {
   is = e.is;
 }
 
-found_by_lem : (x : Reading) (p : Pair) (pairs : List Pair) → reading_of p ≡ x
+found_by_lem : (x : Result Record Refusal) (p : Pair) (pairs : List Pair) → reading_of p ≡ x
     → ((k : ℕ) → k < length (epochs_of pairs) → EpochOf pairs (get_or (epochs_of pairs) k no_stamp))
     → (k : ℕ) → k < length (epoch_and x (epochs_of pairs)) → EpochOf (p ∷ pairs) (get_or (epoch_and x (epochs_of pairs)) k no_stamp)
-found_by_lem (Record r) p pairs e rest zero h = record { place = 0; of = r; accepted = record { inside = omega arith; is = e }; is = refl }
-found_by_lem (Record r) p pairs e rest (suc k) h = further p (rest k (omega arith))
-found_by_lem (Refused why) p pairs e rest k h = further p (rest k h)
+found_by_lem (Ok r) p pairs e rest zero h = record { place = 0; of = r; accepted = record { inside = omega arith; is = e }; is = refl }
+found_by_lem (Ok r) p pairs e rest (suc k) h = further p (rest k (omega arith))
+found_by_lem (Err why) p pairs e rest k h = further p (rest k h)
 
 found : (pairs : List Pair) (k : ℕ) → k < length (epochs_of pairs) → EpochOf pairs (get_or (epochs_of pairs) k no_stamp)
 unfolding epochs_of
@@ -44,9 +45,9 @@ record Listed (stamps : List Stamp) (s : Stamp) : Type 0 where
   inside : place < length stamps
   is : get_or stamps place no_stamp ≡ s
 
-past : {stamps : List Stamp} {s : Stamp} (x : Reading) → Listed stamps s → Listed (epoch_and x stamps) s
-past (Record r) l = record { place = suc l.place; inside = omega (arith, l.inside); is = l.is }
-past (Refused why) l = l
+past : {stamps : List Stamp} {s : Stamp} (x : Result Record Refusal) → Listed stamps s → Listed (epoch_and x stamps) s
+past (Ok r) l = record { place = suc l.place; inside = omega (arith, l.inside); is = l.is }
+past (Err why) l = l
 
 listed : (pairs : List Pair) (place : ℕ) (r : tle.Record) → AcceptedAt pairs place r → Listed (epochs_of pairs) (stamp_of r)
 unfolding epochs_of
@@ -54,10 +55,10 @@ listed [] place r a = absurd (omega (arith, a.inside))
 listed (p ∷ pairs) zero r a = rw a.is (record { place = 0; inside = omega arith; is = refl })
 listed (p ∷ pairs) (suc k) r a = past (reading_of p) (listed pairs k r (record { inside = omega (arith, a.inside); is = a.is }))
 
-counted_by : (x : Reading) (stamps : List Stamp) (n : ℕ) → length stamps ≡ n → length (epoch_and x stamps) ≡ one (is_accepted x) + n
+counted_by : (x : Result Record Refusal) (stamps : List Stamp) (n : ℕ) → length stamps ≡ n → length (epoch_and x stamps) ≡ one (is_accepted x) + n
 unfolding is_accepted
-counted_by (Record r) stamps n e = omega arith
-counted_by (Refused why) stamps n e = omega arith
+counted_by (Ok r) stamps n e = omega arith
+counted_by (Err why) stamps n e = omega arith
 
 epochs_counted : (pairs : List Pair) → length (epochs_of pairs) ≡ count is_accepted pairs
 unfolding epochs_of count

@@ -14,15 +14,16 @@ use Rattle.listing.proofs.Kept.{enough}
 use Rattle.report.specs.declared.Tally.{Tally}
 use Rattle.report.specs.declared.Count.{Count}
 use Rattle.report.specs.declared.State.{State}
-use Rattle.report.specs.declared.Report.{Report}
-use Rattle.report.specs.declared.Report.TheVariants.{Counted, TooMany, Odd}
+use Rattle.std.specs.Prelude.{Err, Ok, Result}
+use Rattle.report.specs.declared.ReportRefusal.{ReportRefusal}
+use Rattle.report.specs.declared.ReportRefusal.TheVariants as report_refusal
 use Rattle.report.specs.Report.{left_over, lines_from, lines_of, Pair, pairs_of, is_odd, tally_of, most_pairs, report_of}
 use Rattle.report.specs.State.{tallied, tally_from, no_tally, nothing, begun, with_pair, with_lines, settled, stepped, fed, closed, finished}
 use Rattle.report.proofs.Counts.{tally_counts}
 
 -- ── what the lines to come make of a count ──
 
-unfoldable outcome : Count → List (List ℕ) → Report
+unfoldable outcome : Count → List (List ℕ) → Result Tally ReportRefusal
 outcome c [] = closed c false
 outcome c (a ∷ []) = closed c true
 outcome c (a ∷ b ∷ lines) = outcome (with_pair c a b) lines
@@ -103,14 +104,14 @@ feeds (b ∷ i) =
 -- ── the whole text ──
 
 -- past 4096 pairs only the number counts
-over : (c : Count) (lines : List (List ℕ)) → most_pairs < c.pairs → outcome c lines ≡ TooMany
+over : (c : Count) (lines : List (List ℕ)) → most_pairs < c.pairs → outcome c lines ≡ Err report_refusal.TooMany
 unfolding outcome closed with_pair
 over c [] h = rw (lt-ltb most_pairs c.pairs h)
 over c (a ∷ []) h = rw (lt-ltb most_pairs c.pairs h)
 over c (a ∷ b ∷ lines) h = rw (le-ltb c.pairs most_pairs (omega arith)) (over (record { pairs = most_pairs + 1; tally = c.tally }) lines (omega arith))
 
-abbrev judged : ℕ → Tally → List (List ℕ) → Report
-judged n t lines = cond (ltb most_pairs (n + length (pairs_of lines))) TooMany (cond (is_odd lines) Odd (Counted (tally_from t (pairs_of lines))))
+abbrev judged : ℕ → Tally → List (List ℕ) → Result Tally ReportRefusal
+judged n t lines = cond (ltb most_pairs (n + length (pairs_of lines))) (Err report_refusal.TooMany) (cond (is_odd lines) (Err report_refusal.Odd) (Ok (tally_from t (pairs_of lines))))
 
 abbrev counts : ℕ → Tally → Count
 counts n t = record { pairs = n; tally = t }
@@ -135,9 +136,9 @@ judge (a ∷ b ∷ lines) n t h = next_by (ltb n most_pairs) n t a b lines refl 
 
 -- the numbers kept on the way are those of all pairs
 as_counted : (m odd : Bool) (pairs : List Pair) → ltb most_pairs (length pairs) ≡ m
-    → cond m TooMany (cond odd Odd (Counted (tally_from no_tally pairs))) ≡ cond m TooMany (cond odd Odd (Counted (tally_of pairs)))
+    → cond m (Err report_refusal.TooMany) (cond odd (Err report_refusal.Odd) (Ok (tally_from no_tally pairs))) ≡ cond m (Err report_refusal.TooMany) (cond odd (Err report_refusal.Odd) (Ok (tally_of pairs)))
 as_counted true odd pairs e = refl
-as_counted false odd pairs e = ap (λ t. cond odd Odd (Counted t)) (tally_counts pairs (ltb-false most_pairs (length pairs) e))
+as_counted false odd pairs e = ap (λ t. cond odd (Err report_refusal.Odd) (Ok t)) (tally_counts pairs (ltb-false most_pairs (length pairs) e))
 
 pub whole : (input : List ℕ) → finished (fed begun input) ≡ report_of input
 unfolding report_of Feeds0

@@ -1,12 +1,10 @@
 -- What follows for every text, and what the state that is fed has to do with it. Proved in proofs/Claims.antt, from Counts, Times, Pieces and LineEnds there.
-use Rattle.std.specs.Prelude.{ℕ, ◌+◌, ◌<◌, ◌≤◌, ◌≡◌, List, [], ◌∷◌, ◌++◌, cond, eqb, length, get_or}
+use Rattle.std.specs.Prelude.{ℕ, ◌+◌, ◌<◌, ◌≤◌, ◌≡◌, List, [], ◌∷◌, ◌++◌, cond, eqb, length, get_or, Ok}
 use Rattle.instant.specs.Calendar.{epoch_micros}
 use Rattle.tle.specs.declared.Record as tle
-use Rattle.tle.specs.declared.Reading.TheVariants.{Record}
 use Rattle.report.specs.declared.Stamp.{Stamp}
 use Rattle.report.specs.declared.Tally.{Tally}
 use Rattle.report.specs.declared.State.{State}
-use Rattle.report.specs.declared.Report.TheVariants.{Counted}
 use Rattle.report.specs.Report.{lines_of, pairs_of, Pair, reading_of, stamp_of, span_of, tally_of, most_pairs, report_of}
 use Rattle.report.specs.State.{tally_from, no_tally, fed, begun, finished}
 
@@ -37,7 +35,7 @@ pub record AddsUp (t : Tally) (pairs : List Pair) : Type 0 where
 -- the pair at a place of the list is accepted, and this is its record
 pub record AcceptedAt (pairs : List Pair) (place : ℕ) (r : tle.Record) : Type 0 where
   pub inside : place < length pairs
-  pub is : reading_of (get_or pairs place (record { first = []; second = [] })) ≡ Record r
+  pub is : reading_of (get_or pairs place (record { first = []; second = [] })) ≡ Ok r
 
 -- an epoch of an accepted pair
 pub record EpochOf (pairs : List Pair) (s : Stamp) : Type 0 where
@@ -60,11 +58,11 @@ pub record Told (t : Tally) (pairs : List Pair) : Type 0 where
 
 -- of every text that is not refused
 abbrev pub ReportTells : Type 0
-ReportTells = (text : List ℕ) (t : Tally) → report_of text ≡ Counted t → Told t (pairs_of (lines_of text))
+ReportTells = (text : List ℕ) (t : Tally) → report_of text ≡ Ok t → Told t (pairs_of (lines_of text))
 
 -- the instant of an accepted pair is that of its epoch, inside 1957-2056
 abbrev pub StampsAreInstants : Type 0
-StampsAreInstants = (p : Pair) (r : tle.Record) → reading_of p ≡ Record r → (stamp_of r).at ≡ epoch_micros r.year r.day
+StampsAreInstants = (p : Pair) (r : tle.Record) → reading_of p ≡ Ok r → (stamp_of r).at ≡ epoch_micros r.year r.day
 
 -- ── the lines ──
 

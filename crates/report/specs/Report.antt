@@ -1,25 +1,24 @@
 -- Document 02, wish 4: the report of a whole text. Its lines, its pairs, how many of them have each property by the definitions of reading and
 -- opening, and the earliest and the latest epoch of those accepted. Definitions only.
-use Rattle.std.specs.Prelude.{ℕ, ◌+◌, ◌-◌, List, [], ◌∷◌, ◌++◌, Bool, true, false, cond, ltb, eqb, length}
-use Rattle.instant.specs.declared.Epoch.{Epoch}
-use Rattle.instant.specs.declared.Epoch.TheVariants as epoch
+use Rattle.std.specs.Prelude.{ℕ, ◌+◌, ◌-◌, List, [], ◌∷◌, ◌++◌, Bool, true, false, cond, ltb, eqb, length, Err, None, Ok, Option, Result, Some}
+use Rattle.opening.specs.declared.opening.Refusal.{Refusal as OpeningRefusal}
+use Rattle.opening.specs.declared.opening.Satellite.{Satellite}
+use Rattle.tle.specs.declared.Refusal.{Refusal}
+use Rattle.instant.specs.declared.Instant.{Instant}
+use Rattle.tle.specs.declared.Record.{Record}
+use Rattle.report.specs.declared.ReportRefusal.{ReportRefusal}
+use Rattle.report.specs.declared.ReportRefusal.TheVariants as report_refusal
 use Rattle.instant.specs.Calendar.{epoch_of}
 use Rattle.tle.specs.Read.{read_of}
 use Rattle.tle.specs.Refusals.{number_of}
 use Rattle.tle.specs.declared.Record as tle
-use Rattle.tle.specs.declared.Reading.{Reading}
-use Rattle.tle.specs.declared.Reading.TheVariants.{Record, Refused}
 use Rattle.satellite.specs.declared.Method.{Method}
 use Rattle.satellite.specs.declared.Method.TheVariants as method
 use Rattle.opening.specs.Opening.{open_of}
-use Rattle.opening.specs.declared.opening.Opening.{Opening}
-use Rattle.opening.specs.declared.opening.Opening.TheVariants as opening
 use Rattle.report.specs.declared.Stamp.{Stamp}
 use Rattle.report.specs.declared.Tally.{Tally}
 use Rattle.report.specs.declared.Kind.{Kind}
 use Rattle.report.specs.declared.Kind.TheVariants.{Near, Deep, Unopened}
-use Rattle.report.specs.declared.Report.{Report}
-use Rattle.report.specs.declared.Report.TheVariants.{Counted, TooMany, Odd}
 
 -- ── the lines and the pairs of a text ──
 
@@ -58,9 +57,9 @@ unfoldable pub kind_by : Method → Kind
 kind_by method.NearEarth = Near
 kind_by (method.DeepSpace d) = Deep
 
-unfoldable pub opened_kind : Opening → Kind
-opened_kind (opening.Opened s) = kind_by s.model.method
-opened_kind (opening.Refused why) = Unopened
+unfoldable pub opened_kind : Result Satellite OpeningRefusal → Kind
+opened_kind (Ok s) = kind_by s.model.method
+opened_kind (Err why) = Unopened
 
 unfoldable pub kind_of : tle.Record → Kind
 kind_of r = opened_kind (open_of r)
@@ -81,9 +80,9 @@ is_unopened Deep = false
 is_unopened Unopened = true
 
 -- the instant of an epoch; an accepted record's is never outside (`epochs_inside` of tle's proofs/Accepted)
-unfoldable pub instant_of : Epoch → ℕ
-instant_of (epoch.At t) = t.0
-instant_of epoch.Outside = 0
+unfoldable pub instant_of : Option Instant → ℕ
+instant_of (Some t) = t.0
+instant_of None = 0
 
 unfoldable pub stamp_of : tle.Record → Stamp
 stamp_of r = record { year = r.year; day = r.day; at = instant_of (epoch_of r.year r.day) }
@@ -95,30 +94,30 @@ earlier a b = cond (ltb b.at a.at) b a
 unfoldable pub later : Stamp → Stamp → Stamp
 later a b = cond (ltb a.at b.at) b a
 
-abbrev pub reading_of : Pair → Reading
+abbrev pub reading_of : Pair → Result Record Refusal
 reading_of p = read_of p.first p.second
 
 -- ── the properties of a reading ──
 
-unfoldable pub is_accepted : Reading → Bool
-is_accepted (Record r) = true
-is_accepted (Refused why) = false
+unfoldable pub is_accepted : Result Record Refusal → Bool
+is_accepted (Ok r) = true
+is_accepted (Err why) = false
 
-unfoldable pub is_refused : ℕ → Reading → Bool
-is_refused k (Record r) = false
-is_refused k (Refused why) = eqb (number_of why) k
+unfoldable pub is_refused : ℕ → Result Record Refusal → Bool
+is_refused k (Ok r) = false
+is_refused k (Err why) = eqb (number_of why) k
 
-unfoldable pub opens_near : Reading → Bool
-opens_near (Record r) = is_near (kind_of r)
-opens_near (Refused why) = false
+unfoldable pub opens_near : Result Record Refusal → Bool
+opens_near (Ok r) = is_near (kind_of r)
+opens_near (Err why) = false
 
-unfoldable pub opens_deep : Reading → Bool
-opens_deep (Record r) = is_deep (kind_of r)
-opens_deep (Refused why) = false
+unfoldable pub opens_deep : Result Record Refusal → Bool
+opens_deep (Ok r) = is_deep (kind_of r)
+opens_deep (Err why) = false
 
-unfoldable pub opens_not : Reading → Bool
-opens_not (Record r) = is_unopened (kind_of r)
-opens_not (Refused why) = false
+unfoldable pub opens_not : Result Record Refusal → Bool
+opens_not (Ok r) = is_unopened (kind_of r)
+opens_not (Err why) = false
 
 -- ── counting ──
 
@@ -126,16 +125,16 @@ abbrev pub one : Bool → ℕ
 one b = cond b 1 0
 
 -- how many of the pairs have a property
-unfoldable pub count : (Reading → Bool) → List Pair → ℕ
+unfoldable pub count : ((Result Record Refusal) → Bool) → List Pair → ℕ
 count property [] = 0
 count property (p ∷ pairs) = one (property (reading_of p)) + count property pairs
 
 -- ── the epochs ──
 
 -- the epochs of the accepted pairs, in order
-abbrev pub epoch_and : Reading → List Stamp → List Stamp
-epoch_and (Record r) stamps = stamp_of r ∷ stamps
-epoch_and (Refused why) stamps = stamps
+abbrev pub epoch_and : Result Record Refusal → List Stamp → List Stamp
+epoch_and (Ok r) stamps = stamp_of r ∷ stamps
+epoch_and (Err why) stamps = stamps
 
 unfoldable pub epochs_of : List Pair → List Stamp
 epochs_of [] = []
@@ -182,14 +181,14 @@ abbrev pub most_pairs : ℕ
 most_pairs = 4096
 
 -- 23, then 24, then the numbers
-unfoldable pub report_of : List ℕ → Report
+unfoldable pub report_of : List ℕ → Result Tally ReportRefusal
 report_of text =
     let lines = lines_of text in
     let pairs = pairs_of lines in
-    cond (ltb most_pairs (length pairs)) TooMany (cond (is_odd lines) Odd (Counted (tally_of pairs)))
+    cond (ltb most_pairs (length pairs)) (Err report_refusal.TooMany) (cond (is_odd lines) (Err report_refusal.Odd) (Ok (tally_of pairs)))
 
 -- document 02's number of a refusal, 0 where there is a report
-unfoldable pub number : Report → ℕ
-number (Counted t) = 0
-number TooMany = 23
-number Odd = 24
+unfoldable pub number : Result Tally ReportRefusal → ℕ
+number (Ok t) = 0
+number (Err report_refusal.TooMany) = 23
+number (Err report_refusal.Odd) = 24

@@ -1,12 +1,14 @@
 -- The state that holds the report of a text while it comes in, one byte after the other, in pieces of any size. Definitions only.
-use Rattle.std.specs.Prelude.{ℕ, ◌+◌, ◌≡◌, List, [], ◌∷◌, Bool, true, false, cond, ltb, eqb}
+use Rattle.std.specs.Prelude.{ℕ, ◌+◌, ◌≡◌, List, [], ◌∷◌, Bool, true, false, cond, ltb, eqb, Err, Ok, Result}
 use Rattle.text.specs.Input as text
 use Rattle.text.specs.declared.input.Line.{Line}
 use Rattle.text.specs.declared.input.Lines.{Lines}
 use Rattle.tle.specs.Read.{read_of}
 use Rattle.tle.specs.Refusals.{number_of}
-use Rattle.tle.specs.declared.Reading.{Reading}
-use Rattle.tle.specs.declared.Reading.TheVariants.{Record, Refused}
+use Rattle.tle.specs.declared.Record.{Record}
+use Rattle.tle.specs.declared.Refusal.{Refusal}
+use Rattle.report.specs.declared.ReportRefusal.{ReportRefusal}
+use Rattle.report.specs.declared.ReportRefusal.TheVariants as report_refusal
 use Rattle.report.specs.declared.Stamp.{Stamp}
 use Rattle.report.specs.declared.Refusals.{Refusals}
 use Rattle.report.specs.declared.Tally.{Tally}
@@ -14,8 +16,6 @@ use Rattle.report.specs.declared.Count.{Count}
 use Rattle.report.specs.declared.State.{State}
 use Rattle.report.specs.declared.Kind.{Kind}
 use Rattle.report.specs.declared.Kind.TheVariants.{Near, Deep, Unopened}
-use Rattle.report.specs.declared.Report.{Report}
-use Rattle.report.specs.declared.Report.TheVariants.{Counted, TooMany, Odd}
 use Rattle.report.specs.Report.{Pair, kind_of, is_near, is_deep, is_unopened, stamp_of, earlier, later, no_stamp, most_pairs}
 
 -- ── the heading ──
@@ -66,9 +66,9 @@ with_kind t kind stamp = record {
   latest = later (first_stamp t.accepted t.latest stamp) stamp;
 }
 
-unfoldable pub with_reading : Tally → Reading → Tally
-with_reading t (Record r) = with_kind t (kind_of r) (stamp_of r)
-with_reading t (Refused why) = with_refusal t (number_of why)
+unfoldable pub with_reading : Tally → Result Record Refusal → Tally
+with_reading t (Ok r) = with_kind t (kind_of r) (stamp_of r)
+with_reading t (Err why) = with_refusal t (number_of why)
 
 unfoldable pub tallied : Tally → List ℕ → List ℕ → Tally
 tallied t line1 line2 = with_reading t (read_of line1 line2)
@@ -124,11 +124,11 @@ unfoldable pub fed : State → List ℕ → State
 fed s [] = s
 fed s (b ∷ bs) = fed (stepped s b) bs
 
-unfoldable pub closed : Count → Bool → Report
-closed c odd = cond (ltb most_pairs c.pairs) TooMany (cond odd Odd (Counted c.tally))
+unfoldable pub closed : Count → Bool → Result Tally ReportRefusal
+closed c odd = cond (ltb most_pairs c.pairs) (Err report_refusal.TooMany) (cond odd (Err report_refusal.Odd) (Ok c.tally))
 
 -- the text has ended
-unfoldable pub finished : State → Report
+unfoldable pub finished : State → Result Tally ReportRefusal
 finished s =
     let lines = s.lines in
     cond (eqb lines.ended 0) (closed s.count (ltb 0 lines.first.size))

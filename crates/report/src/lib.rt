@@ -10,11 +10,11 @@ ghost use Rattle.text.specs.Input.{line_of};
 ghost use Rattle.report.specs.Report as R;
 ghost use Rattle.report.specs.State as S;
 
-use instant::Epoch;
+use instant::Instant;
 use lent_opening::open_record;
 use listing::kept_size;
 use text::{Line, Lines};
-use tle::{Form, Reading, Record, epoch, read_form, read_meaning};
+use tle::{Record, Refusal, epoch, read_form, read_meaning};
 
 // An accepted record's epoch: its year and day, as the record has them, and its instant.
 #[derive(Clone, Copy)]
@@ -61,10 +61,9 @@ pub struct State {
     pub count: Count,
 }
 
-// What a text comes to: its numbers; or 23, more than 4,096 whole pairs; or 24, an odd number of lines.
+// Why a text has no report: 23, more than 4,096 whole pairs; or 24, an odd number of lines.
 #[derive(Clone, Copy)]
-pub enum Report {
-    Counted(Tally),
+pub enum ReportRefusal {
     TooMany,
     Odd,
 }
@@ -143,12 +142,12 @@ fn kind_of(r: Record) -> Kind
     marked_kind(answer, marks[3])
 }
 
-fn instant_of(e: Epoch) -> u64
+fn instant_of(e: Option<Instant>) -> u64
     ensures { result ≡ R.instant_of e }
 {
     match e {
-        Epoch::At(t) => t.0,
-        Epoch::Outside => 0,
+        Some(t) => t.0,
+        None => 0,
     }
 }
 
@@ -247,21 +246,21 @@ fn with_kind(t: Tally, kind: Kind, stamp: Stamp) -> Tally
     }
 }
 
-fn with_reading(t: Tally, reading: Reading) -> Tally
+fn with_reading(t: Tally, reading: Result<Record, Refusal>) -> Tally
     ensures { result ≡ S.with_reading t reading }
 {
     match reading {
-        Reading::Record(r) => with_kind(t, kind_of(r), stamp_of(r)),
-        Reading::Refused(why) => with_refusal(t, why.number()),
+        Ok(r) => with_kind(t, kind_of(r), stamp_of(r)),
+        Err(why) => with_refusal(t, why.number()),
     }
 }
 
 fn tallied(t: Tally, line1: &[u8], line2: &[u8]) -> Tally
     ensures { result ≡ S.tallied t line1.now line2.now }
 {
-    let form = read_form(line1, line2);
-    let Form::Fields(fields) = form else {
-        return with_refusal(t, form.refusal().number());
+    let fields = match read_form(line1, line2) {
+        Ok(fields) => fields,
+        Err(why) => return with_refusal(t, why.number()),
     };
     with_reading(t, read_meaning(fields))
 }
@@ -297,18 +296,18 @@ fn with_lines(count: Count, first: Line, second: Line) -> Count
 }
 
 #[tactic(auto, using(std::proofs::lemmas::Bool::Decides::nat_tests), unfolding(crate::specs::State::closed))]
-fn closed(count: Count, odd: bool) -> Report
+fn closed(count: Count, odd: bool) -> Result<Tally, ReportRefusal>
     ensures { result ≡ S.closed count odd }
 {
     let many = count.pairs > 4096;
     if many {
-        return Report::TooMany;
+        return Err(ReportRefusal::TooMany);
     }
     if odd {
-        return Report::Odd;
+        return Err(ReportRefusal::Odd);
     }
     let tally = count.tally;
-    Report::Counted(tally)
+    Ok(tally)
 }
 
 fn nothing() -> Count
@@ -363,14 +362,12 @@ fn line_end(piece: &[u8], from: usize) -> usize
     ensures value { result ≡ from + length (line_of (drop from piece.now)) }
     ensures upper_bound { result ≤ length piece.now }
 {
-    let mut i = from;
-    while i < piece.len() {
+    for i in from..piece.len() {
         if piece[i] == b'\n' {
             return i;
         }
-        i += 1;
     }
-    i
+    piece.len()
 }
 
 // The pairs that are whole in the piece from an index on, read where they stand.
@@ -402,18 +399,17 @@ fn feed_pair(state: State, piece: &[u8], from: usize) -> Fed
 {
     let mut lines = state.lines;
     let count = state.count;
-    let mut i = from;
-    while i < piece.len() {
+    for i in from..piece.len() {
         lines = lines.feed(&piece[i..i + 1]);
-        i += 1;
         if lines.ended >= 2 {
             let first = lines.first;
             let second = lines.second;
-            return feed_whole(with_lines(count, first, second), piece, i);
+            return feed_whole(with_lines(count, first, second), piece, i + 1);
         }
     }
     let state = State { lines, count };
-    Fed { state, next: i }
+    let next = piece.len();
+    Fed { state, next }
 }
 
 impl State {
@@ -441,7 +437,7 @@ impl State {
     }
 
     // The text has ended. A last line without a newline counts if it has a byte.
-    pub fn finish(self) -> Report
+    pub fn finish(self) -> Result<Tally, ReportRefusal>
         ensures { result ≡ S.finished self }
     {
         let lines = self.lines;
@@ -459,7 +455,7 @@ impl State {
 }
 
 // The report of a whole text.
-pub fn report_text(text: &[u8]) -> Report
+pub fn report_text(text: &[u8]) -> Result<Tally, ReportRefusal>
     ensures { result ≡ R.report_of text.now }
 {
     let state = State::start();

@@ -1,10 +1,9 @@
 // The report as whole numbers in memory that a caller lends. specs/Numbers has the layout.
-ghost use Rattle.std.specs.Prelude.{◌≡◌, ◌++◌, ◌≤◌, length, drop};
+ghost use Rattle.std.specs.Prelude.{◌≡◌, ◌++◌, ◌≤◌, length, drop, Ok};
 ghost use Rattle.report.specs.Report.{report_of};
 ghost use Rattle.report.specs.Numbers as N;
-ghost use Rattle.report.specs.declared.Report.TheVariants.{Counted};
 
-use crate::{Report, Tally, report_text, span_of};
+use crate::{ReportRefusal, Tally, report_text, span_of};
 
 // One unit of a day's last digit is 864 microseconds.
 fn numbers_of(t: Tally) -> [u64; 17]
@@ -39,17 +38,13 @@ fn put_front(values: [u64; 17], counts: &mut [u64])
     requires { 17 ≤ length counts.old }
     ensures { counts.new ≡ values ++ drop 17 counts.old }
 {
-    let mut i = 0;
-    while i < 17 {
-        counts[i] = values[i];
-        i += 1;
-    }
+    counts[..17].copy_from_slice(&values);
 }
 
 // 0, or refusal 17 with nothing written.
 fn store_tally(t: Tally, counts: &mut [u64]) -> u64
-    ensures value { result ≡ N.store_refusal (Counted t) (length counts.old) }
-    ensures counts_after { counts.new ≡ N.stored_over (Counted t) counts.old }
+    ensures value { result ≡ N.store_refusal (Ok t) (length counts.old) }
+    ensures counts_after { counts.new ≡ N.stored_over (Ok t) counts.old }
 {
     if counts.len() < 17 {
         return 17;
@@ -58,14 +53,15 @@ fn store_tally(t: Tally, counts: &mut [u64]) -> u64
     0
 }
 
-fn store_report(report: Report, counts: &mut [u64]) -> u64
+#[tactic(auto, unfolding(crate::specs::Numbers::store_refusal, crate::specs::Numbers::stored_over))]
+fn store_report(report: Result<Tally, ReportRefusal>, counts: &mut [u64]) -> u64
     ensures value { result ≡ N.store_refusal report (length counts.old) }
     ensures counts_after { counts.new ≡ N.stored_over report counts.old }
 {
     match report {
-        Report::Counted(t) => store_tally(t, counts),
-        Report::TooMany => 23,
-        Report::Odd => 24,
+        Ok(t) => store_tally(t, counts),
+        Err(ReportRefusal::TooMany) => 23,
+        Err(ReportRefusal::Odd) => 24,
     }
 }
 

@@ -12,7 +12,7 @@ use lib.ListN.{length, drop, get_or, drop_of_length-le}
 use lib.Seq.{sets, drop-cons}
 use Rattle.request_line.specs.declared.Scan.{Scan}
 use Rattle.request_line.specs.Times.{Found, bad, read_on, times_of, faulty, blanked, minused, digited, stepped, stored, count_of, limit}
-use Rattle.request_line.specs.declared.Times.TheVariants.{Read, Malformed}
+use Rattle.std.specs.Prelude.{None, Some}
 
 case : {P : Type 0} (b : Bool) → (b ≡ true → P) → (b ≡ false → P) → P
 case true f g = f refl
@@ -175,14 +175,14 @@ module _ (s : List ℕ) (o : List ℤ) (t : Scan) (out : List ℤ) (i : ℕ) (d 
     last : Todo (times_of s) o t out []
     last = rw (drop_of_length-le s h) at d
 
-    pub read : (t.good && t.some) ≡ true → (Read (t.count + 1) ≡ count_of (times_of s)) × (out' ≡ sets o 0 (times_of s).values)
+    pub read : (t.good && t.some) ≡ true → (Some (t.count + 1) ≡ count_of (times_of s)) × (out' ≡ sets o 0 (times_of s).values)
     unfolding count_of
     read b =
         let a = and_true t.good t.some b in
         let z = done_by (times_of s) o t out last a.0 a.1 in
         (rw (z.0, z.1), e ∙ z.2)
 
-    pub none : (t.good && t.some) ≡ false → (Malformed ≡ count_of (times_of s)) × (out' ≡ sets o 0 (times_of s).values)
+    pub none : (t.good && t.some) ≡ false → (None ≡ count_of (times_of s)) × (out' ≡ sets o 0 (times_of s).values)
     unfolding count_of
     none b =
         let z = bad_by (times_of s) o t out last b in

@@ -1,9 +1,7 @@
 -- A request line: `one` and a time, or `list` and none or more times, a blank before each.
-use Rattle.std.specs.Prelude.{ℕ, List, [], ◌∷◌, Bool, true, false, cond, eqb, leb, ℤ, length, drop}
+use Rattle.std.specs.Prelude.{ℕ, List, [], ◌∷◌, Bool, true, false, cond, eqb, leb, ℤ, length, drop, None, Option, Some}
 use Rattle.std.proofs.lemmas.List.Edits.{sets}
 use Rattle.text.specs.Output.{bytes}
-use Rattle.request_line.specs.declared.Times as ts
-use Rattle.request_line.specs.declared.Times.TheVariants as t
 use Rattle.request_line.specs.declared.Request as rs
 use Rattle.request_line.specs.declared.Request.TheVariants.{One, List as ListOf, TooMany, Malformed}
 use Rattle.request_line.specs.Times.{times_of, count_of}
@@ -21,13 +19,13 @@ single_of n room = cond (eqb n 1) (cond (leb n room) One TooMany) Malformed
 unfoldable pub several_of : ℕ → ℕ → rs.Request
 several_of n room = cond (leb n room) (ListOf n) TooMany
 
-abbrev pub one_of : ts.Times → ℕ → rs.Request
-one_of (t.Read n) room = single_of n room
-one_of t.Malformed room = Malformed
+abbrev pub one_of : Option ℕ → ℕ → rs.Request
+one_of (Some n) room = single_of n room
+one_of None room = Malformed
 
-abbrev pub list_of : ts.Times → ℕ → rs.Request
-list_of (t.Read n) room = several_of n room
-list_of t.Malformed room = Malformed
+abbrev pub list_of : Option ℕ → ℕ → rs.Request
+list_of (Some n) room = several_of n room
+list_of None room = Malformed
 
 unfoldable pub request_of : List ℕ → ℕ → rs.Request
 request_of s room =

@@ -1,8 +1,6 @@
 -- Times: signed decimals, one blank between two.
-use Rattle.std.specs.Prelude.{ℕ, zero, suc, ◌+◌, ◌*◌, ◌-◌, min, List, [], ◌∷◌, Bool, true, false, cond, ◌&&◌, leb, eqb, ℤ, pos, negsuc, length, set}
+use Rattle.std.specs.Prelude.{ℕ, zero, suc, ◌+◌, ◌*◌, ◌-◌, min, List, [], ◌∷◌, Bool, true, false, cond, ◌&&◌, leb, eqb, ℤ, pos, negsuc, length, set, None, Option, Some}
 use Rattle.request_line.specs.declared.Scan.{Scan}
-use Rattle.request_line.specs.declared.Times as ts
-use Rattle.request_line.specs.declared.Times.TheVariants.{Read, Malformed}
 
 -- A time farther out than this is read as this: the answer, refusal 9, is the same, and the number fits an i64.
 abbrev pub limit : ℕ
@@ -38,8 +36,8 @@ read_on minus some v (b ∷ bs) =
 abbrev pub times_of : List ℕ → Found
 times_of s = read_on false false 0 s
 
-unfoldable pub count_of : Found → ts.Times
-count_of f = cond f.good (Read (length f.values)) Malformed
+unfoldable pub count_of : Found → Option ℕ
+count_of f = cond f.good (Some (length f.values)) None
 
 -- the state of the loop after a fault; after a blank; after a minus sign; after another byte; after any
 unfoldable pub faulty : Scan → Scan

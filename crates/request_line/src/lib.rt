@@ -135,14 +135,7 @@ fn store(t: Scan, b: u8, row: &mut [i64])
     }
 }
 
-// How many times there are, also those that the row has no place for.
-#[derive(Clone, Copy)]
-enum Times {
-    Read(usize),
-    Malformed,
-}
-
-fn read_times(s: &[u8], row: &mut [i64]) -> Times
+fn read_times(s: &[u8], row: &mut [i64]) -> Option<usize>
     ensures { (result ≡ count_of (times_of s.now)) × (row.new ≡ sets row.old 0 (times_of s.now).values) }
 {
     let mut t = Scan {
@@ -152,36 +145,22 @@ fn read_times(s: &[u8], row: &mut [i64]) -> Times
         value: 0,
         count: 0,
     };
-    let mut i = 0;
-    while i < s.len() {
-        let b = s[i];
+    for &b in s {
         store(t, b, row);
         t = step(t, b);
-        i += 1;
     }
     store(t, b' ', row);
     if t.good & t.some {
-        return Times::Read(t.count + 1);
+        return Some(t.count + 1);
     }
-    Times::Malformed
+    None
 }
 
 // Whether a text begins with a word.
 pub fn begins(s: &[u8], word: &[u8]) -> bool
     ensures { (result ≡ begun word.now s.now) × (result ≡ true → length word.now ≤ length s.now) }
 {
-    if s.len() < word.len() {
-        return false;
-    }
-    let mut i = 0;
-    while i < word.len() {
-        if s[i] == word[i] {
-            i += 1;
-        } else {
-            return false;
-        }
-    }
-    true
+    s.starts_with(word)
 }
 
 #[derive(Clone, Copy)]
@@ -216,21 +195,21 @@ fn several(n: usize, room: usize) -> Request
     Request::TooMany
 }
 
-fn as_one(times: Times, room: usize) -> Request
+fn as_one(times: Option<usize>, room: usize) -> Request
     ensures { result ≡ one_of times room }
 {
     match times {
-        Times::Read(n) => single(n, room),
-        Times::Malformed => Request::Malformed,
+        Some(n) => single(n, room),
+        None => Request::Malformed,
     }
 }
 
-fn as_list(times: Times, room: usize) -> Request
+fn as_list(times: Option<usize>, room: usize) -> Request
     ensures { result ≡ list_of times room }
 {
     match times {
-        Times::Read(n) => several(n, room),
-        Times::Malformed => Request::Malformed,
+        Some(n) => several(n, room),
+        None => Request::Malformed,
     }
 }
 

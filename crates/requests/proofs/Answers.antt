@@ -14,14 +14,13 @@ use Rattle.resonance.specs.Time.{in_range, side_of, stride_need}
 use Rattle.resonance.specs.Held.{held_at, Right, stays}
 use Rattle.resonance.proofs.Handed.{left_kept, staying}
 use Rattle.sgp4.specs.declared.Row.{Row}
-use Rattle.sgp4.specs.declared.pairs.Rows.{Rows}
 use Rattle.sgp4.specs.Sgp4.{integrator_of}
 use Rattle.sgp4.specs.Row.{refused_row}
 use Rattle.sgp4.specs.Kept.{row_from}
 use Rattle.sgp4.specs.Two.{rows_by}
 use Rattle.sgp4.proofs.Two.{rows_held}
 use Rattle.requests.specs.declared.Asked.{Asked}
-use Rattle.requests.specs.declared.AskedTwo.{AskedTwo}
+use Rattle.elementary.specs.Two.{Two}
 use Rattle.requests.specs.declared.Carried.{Carried}
 use Rattle.requests.specs.Request.{reached, choose, inside, outside, asked}
 use Rattle.requests.specs.Two.{asked_two, went_on, carried}
@@ -42,7 +41,7 @@ out_of_range k p t b row hb h hr =
 
 -- ── two times ──
 
-pub one_then : (k : Model) (p : Place) (t u : ℤ) (x y : Asked) → x ≡ asked k p t → y ≡ asked k x.place u → ◌≡◌ {A = AskedTwo} (record { first = x; second = y }) (asked_two k p t u)
+pub one_then : (k : Model) (p : Place) (t u : ℤ) (x y : Asked) → x ≡ asked k p t → y ≡ asked k x.place u → ◌≡◌ {A = Two Asked} (record { first = x; second = y }) (asked_two k p t u)
 one_then k p t u x y hx hy =
     ap (λ (z : Asked). record { first = x; second = z }) hy ∙ ap (λ (z : Asked). record { first = z; second = asked k z.place u }) hx
 
@@ -96,7 +95,7 @@ carried_stays_right k h t a r e known =
     let x : a.held.place ≡ (reached k h.place t).place = ap (λ (z : Advance). z.place) (carried_advance k h t a r e) in
     (carried_on k h t a r e, ap kept x ∙ left_kept _ _ _ _ ∙ sym x)
 
-pub held_rows : (k : Model) (g h : Held) (t u : ℤ) (x : Rows) → g ≡ held_at (integrator_of k) g.place → h ≡ held_at (integrator_of k) h.place → x ≡ rows_by k g t h u
+pub held_rows : (k : Model) (g h : Held) (t u : ℤ) (x : Two Row) → g ≡ held_at (integrator_of k) g.place → h ≡ held_at (integrator_of k) h.place → x ≡ rows_by k g t h u
     → x ≡ record { first = row_from k g.place t; second = row_from k h.place u }
 held_rows k g h t u x eg eh e =
     e ∙ ap (λ (z : Held). rows_by k z t h u) eg ∙ ap (λ (z : Held). rows_by k (held_at (integrator_of k) g.place) t z u) eh ∙ rows_held k g.place t h.place u

@@ -19,7 +19,7 @@ use Rattle.sgp4.specs.declared.Row.{Row}
 use Rattle.sgp4.specs.Sgp4.{integrator_of}
 use Rattle.opening.specs.declared.opening.Satellite.{Satellite}
 use Rattle.requests.specs.declared.Asked.{Asked}
-use Rattle.requests.specs.declared.AskedTwo.{AskedTwo}
+use Rattle.elementary.specs.Two.{Two}
 use Rattle.requests.specs.declared.Answered.{Answered}
 use Rattle.requests.specs.Request.{reached, choose, inside, outside, asked, answered}
 use Rattle.requests.specs.Two.{asked_two}
@@ -256,15 +256,15 @@ filling_put ts a₀ b₀ c₀ k p₀ a b c p n i d u a' b' c' r f h hr hu e =
     (filling_more ts a₀ b₀ c₀ k p₀ a b c p n i d u b' r f h hr hu e.1.0))
 
 -- the answers for two times
-pub first_of : (x : AskedTwo) (k : Model) (p : Place) (t u : ℤ) → x ≡ asked_two k p t u → x.first ≡ asked k p t
-first_of x k p t u e = ap (λ (z : AskedTwo). z.first) e
+pub first_of : (x : Two Asked) (k : Model) (p : Place) (t u : ℤ) → x ≡ asked_two k p t u → x.first ≡ asked k p t
+first_of x k p t u e = ap (λ (z : Two Asked). z.first) e
 
-pub second_of : (x : AskedTwo) (k : Model) (p : Place) (t u : ℤ) → x ≡ asked_two k p t u → x.second ≡ asked k x.first.place u
-second_of x k p t u e = ap (λ (z : AskedTwo). z.second) e ∙ ap (λ (z : Asked). asked k z.place u) (sym (first_of x k p t u e))
+pub second_of : (x : Two Asked) (k : Model) (p : Place) (t u : ℤ) → x ≡ asked_two k p t u → x.second ≡ asked k x.first.place u
+second_of x k p t u e = ap (λ (z : Two Asked). z.second) e ∙ ap (λ (z : Asked). asked k z.place u) (sym (first_of x k p t u e))
 
 -- two rows more
 pub filling_two : (ts : List ℤ) (a₀ : List ℕ) (b₀ : List Float) (c₀ : List ℕ) (k : Model) (p₀ : Place) (a : List ℕ) (b : List Float) (c : List ℕ) (p : Place) (n i : ℕ) (d t u : ℤ)
-    (a'' : List ℕ) (b'' : List Float) (c'' : List ℕ) (x : AskedTwo)
+    (a'' : List ℕ) (b'' : List Float) (c'' : List ℕ) (x : Two Asked)
     → Filling ts a₀ b₀ c₀ k p₀ a b c p n i → i + 1 < length ts → x ≡ asked_two k p t u → t ≡ get_or ts i d → u ≡ get_or ts (i + 1) d
     → (a'' ≡ set (set a i x.first.row.refusal) (i + 1) x.second.row.refusal)
     × ((b'' ≡ sets (sets b (6 * i) (state_of x.first.row)) (6 * (i + 1)) (state_of x.second.row)) × (c'' ≡ set (set c i x.first.row.rounds) (i + 1) x.second.row.rounds))
@@ -294,7 +294,11 @@ filling_done {ts} {a₀} {b₀} {c₀} {k} {p₀} {a} {b} {c} {p} {n} {i} f h =
       rounds = f.rounds ∙ ap (λ l. over (rounds_of (rows_from (holding k p₀) l)) c₀) e;
     }
 
--- ── the same positions, otherwise written ──
+-- ── the same index, and the same positions, otherwise written ──
+
+pub filling_to : {ts : List ℤ} {a₀ : List ℕ} {b₀ : List Float} {c₀ : List ℕ} {k : Model} {p₀ : Place} {a : List ℕ} {b : List Float} {c : List ℕ} {p : Place} {n i j : ℕ}
+    → Filling ts a₀ b₀ c₀ k p₀ a b c p n i → i ≡ j → Filling ts a₀ b₀ c₀ k p₀ a b c p n j
+filling_to {ts} {a₀} {b₀} {c₀} {k} {p₀} {a} {b} {c} {p} {n} f e = subst (λ (z : ℕ). Filling ts a₀ b₀ c₀ k p₀ a b c p n z) e f
 
 pub filling_at : {ts : List ℤ} {a₀ : List ℕ} {b₀ : List Float} {c₀ : List ℕ} {k : Model} {p₀ : Place} {a : List ℕ} {b : List Float} {c : List ℕ} {p : Place} {n i : ℕ} {q : Place}
     → Filling ts a₀ b₀ c₀ k p₀ a b c p n i → q ≡ p → Filling ts a₀ b₀ c₀ k p₀ a b c q n i

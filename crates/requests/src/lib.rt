@@ -10,6 +10,7 @@ ghost use Rattle.requests.specs.Request as Q;
 ghost use Rattle.requests.specs.Two.{asked_two, went_on, carried};
 ghost use Rattle.requests.specs.Lists as L;
 
+use elementary::Two;
 use instant::{Microseconds, Strides};
 use opening::opening::Satellite;
 use resonance::held::{Held, held_at, unknown};
@@ -25,13 +26,6 @@ pub struct Asked {
     pub row: Row,
     pub strides: Strides,
     pub place: Place,
-}
-
-// The same of two times, the second at the position that the first leaves.
-#[derive(Clone, Copy)]
-pub struct AskedTwo {
-    pub first: Asked,
-    pub second: Asked,
 }
 
 // A single request's answer, with the satellite to be handed to the next.
@@ -58,10 +52,11 @@ pub struct Carried {
     pub strides: Strides,
 }
 
-// Two times asked, with the position that the second leaves and the derivatives there.
+// Two times asked, the second at the position that the first leaves; with the position that the second
+// leaves and the derivatives there.
 #[derive(Clone, Copy)]
 struct HeldTwo {
-    two: AskedTwo,
+    two: Two<Asked>,
     held: Held,
 }
 
@@ -100,13 +95,13 @@ fn ask(model: Model, place: Place, t: Microseconds) -> Asked
     }
 }
 
-fn ask_each(model: Model, place: Place, t: Microseconds, t2: Microseconds) -> AskedTwo
+fn ask_each(model: Model, place: Place, t: Microseconds, t2: Microseconds) -> Two<Asked>
     ensures { result ≡ asked_two model place t.0 t2.0 }
 {
     let first = ask(model, place, t);
     let reached = first.place;
     let second = ask(model, reached, t2);
-    AskedTwo { first, second }
+    Two { first, second }
 }
 
 // Two times where one is out of range.
@@ -166,7 +161,7 @@ fn ask_two(model: Model, h: Held, t: Microseconds, t2: Microseconds) -> HeldTwo
         let row2 = rows.second;
         let place = p.place;
         let place2 = p2.place;
-        let two = AskedTwo {
+        let two = Two {
             first: Asked {
                 row,
                 strides,
@@ -232,7 +227,7 @@ fn put_row(refusals: &mut [u8], states: &mut [f64], rounds: &mut [u8], i: usize,
 }
 
 // Two rows, one after the other.
-fn put_two(refusals: &mut [u8], states: &mut [f64], rounds: &mut [u8], i: usize, two: AskedTwo)
+fn put_two(refusals: &mut [u8], states: &mut [f64], rounds: &mut [u8], i: usize, two: Two<Asked>)
     requires i_in_bounds { i + 1 < length refusals.old }
     requires i_in_bounds_2 { 6 * (i + 1) + 6 ≤ length states.old }
     requires i_in_bounds_3 { i + 1 < length rounds.old }
@@ -266,22 +261,19 @@ fn fill(
 {
     let mut h = unknown(place);
     let mut total: u32 = 0;
-    let mut i = 0;
-    while i + 1 < times.len() {
-        let t = times[i];
-        let u = times[i + 1];
-        let x = ask_two(model, h, Microseconds(t), Microseconds(u));
+    for k in 0..times.len() / 2 {
+        let i = 2 * k;
+        let x = ask_two(model, h, Microseconds(times[i]), Microseconds(times[i + 1]));
         let two = x.two;
         put_two(refusals, states, rounds, i, two);
         total += two.first.strides.0;
         total += two.second.strides.0;
         h = x.held;
-        i += 2;
     }
     let mut p = h.place;
-    if i < times.len() {
-        let t = times[i];
-        let a = ask(model, p, Microseconds(t));
+    if times.len() % 2 == 1 {
+        let i = times.len() - 1;
+        let a = ask(model, p, Microseconds(times[i]));
         let row = a.row;
         put_row(refusals, states, rounds, i, row);
         total += a.strides.0;

@@ -52,19 +52,13 @@ fn resonant_of(kind: Resonance, i: Integrator, nm: f64, xl: f64, theta: f64, m: 
         Resonance::None => m,
         Resonance::OneDay(_) => Mean {
             nm: i.no + (nm - i.no),
-            em: m.em,
-            inclm: m.inclm,
-            argpm: m.argpm,
-            nodem: m.nodem,
             mm: xl - m.nodem - m.argpm + theta,
+            ..m
         },
         Resonance::HalfDay(_) => Mean {
             nm: i.no + (nm - i.no),
-            em: m.em,
-            inclm: m.inclm,
-            argpm: m.argpm,
-            nodem: m.nodem,
             mm: xl - 2.0 * m.nodem + 2.0 * theta,
+            ..m
         },
     }
 }

@@ -7,7 +7,7 @@ use instant::Strides;
 use satellite::{Integrator, Resonance};
 
 // The side of the epoch.
-#[derive(Clone, Copy)]
+#[derive(Clone, Copy, PartialEq, Eq)]
 pub enum Side {
     Forward,
     Back,
@@ -27,21 +27,6 @@ pub struct Place {
 pub struct Advance {
     pub place: Place,
     pub strides: Strides,
-}
-
-fn same_side(a: Side, b: Side) -> bool
-    ensures { result ≡ P.same_side a b }
-{
-    match a {
-        Side::Forward => match b {
-            Side::Forward => true,
-            Side::Back => false,
-        },
-        Side::Back => match b {
-            Side::Forward => false,
-            Side::Back => true,
-        },
-    }
 }
 
 fn at_epoch(kind: Resonance, x: f64) -> f64
@@ -117,13 +102,7 @@ impl Place {
     fn facing(self, side: Side) -> Place
         ensures { result ≡ P.facing side self }
     {
-        let strides = self.strides;
-        Place {
-            side,
-            strides,
-            xli: self.xli,
-            xni: self.xni,
-        }
+        Place { side, ..self }
     }
 
     // Whether a request for `m` strides on `side` goes on from here.
@@ -138,7 +117,7 @@ impl Place {
         if n == 0 {
             return true;
         }
-        same_side(have, side)
+        have == side
     }
 
     // Choose the start.
@@ -188,9 +167,8 @@ impl Place {
         requires { P.number self ≤ m.0 }
         ensures { result ≡ P.kept (P.iter i (m.0 - P.number self) self) }
     {
-        let goal = m.0;
         let mut p = self;
-        while p.strides.0 < goal {
+        for _ in self.strides.0..m.0 {
             p = p.stride(i);
         }
         p.kept()

@@ -23,11 +23,7 @@ pub fn in_range(t: Microseconds) -> bool
 fn is_resonant(kind: Resonance) -> bool
     ensures { result ≡ T.resonant kind }
 {
-    match kind {
-        Resonance::None => false,
-        Resonance::OneDay(_) => true,
-        Resonance::HalfDay(_) => true,
-    }
+    !matches!(kind, Resonance::None)
 }
 
 // The whole strides of 12 hours in a time's distance; none without resonance.

@@ -16,8 +16,7 @@ use Rattle.roster.specs.Packed.{packed}
 use Rattle.roster.specs.Records.{Rising, end, next}
 use Rattle.roster.specs.Roster.{pair_bytes, bytes_of, all_zero, place_of, in_front, followed, pairs_in, roster_of}
 use Rattle.roster.specs.Claims.{RostersExactly, read_at, PlacesRead}
-use Rattle.roster.specs.declared.places.Place.{Place}
-use Rattle.roster.specs.declared.places.Place.TheVariants as place
+use Rattle.std.specs.Prelude.{None, Option as Optional, Some}
 use Rattle.roster.proofs.Tests.{zero_replicate, replicate_zero}
 use Rattle.roster.proofs.Pairs.{length_pair, read_front, place_back, place_sound, pair_nonzero}
 use Rattle.roster.proofs.Passes.{ended, paired}
@@ -62,7 +61,7 @@ nothing k low b rs long zeros e =
     })
 
 -- a place r in front of the records qs of the others
-in_front_lem : (k low : ℕ) (b : List ℕ) (r : Record) (qs rs : List Record) → 138 ≤ length b → place_of (take 138 b) ≡ place.Pair r → low ≤ r.number
+in_front_lem : (k low : ℕ) (b : List ℕ) (r : Record) (qs rs : List Record) → 138 ≤ length b → place_of (take 138 b) ≡ Some r → low ≤ r.number
     → Decoded k (r.number + 1) (drop 138 b) qs → some (r ∷ qs) ≡ some rs → Decoded (suc k) low b rs
 in_front_lem k low b r qs rs long p h d e =
     let n = some-injective (r ∷ qs) rs e in
@@ -76,19 +75,19 @@ in_front_lem k low b r qs rs long p h d e =
 -- k + 1 places, where the law is known of k
 module _ (k low : ℕ) (b : List ℕ) (rs : List Record) (long : length b ≡ suc k * 138)
     (more : (n : ℕ) (qs : List Record) → pairs_in k n (drop 138 b) ≡ some qs → Decoded k n (drop 138 b) qs) where
-  by_rest : (o : Option (List Record)) (r : Record) → place_of (take 138 b) ≡ place.Pair r → low ≤ r.number
+  by_rest : (o : Option (List Record)) (r : Record) → place_of (take 138 b) ≡ Some r → low ≤ r.number
       → pairs_in k (r.number + 1) (drop 138 b) ≡ o → in_front r o ≡ some rs → Decoded (suc k) low b rs
   by_rest none r p h f e = absurd (none-ne-some rs e)
   by_rest (some qs) r p h f e = in_front_lem k low b r qs rs (omega arith) p h (more (r.number + 1) qs f) e
 
-  by_order : (x : Bool) (r : Record) → place_of (take 138 b) ≡ place.Pair r → leb low r.number ≡ x
+  by_order : (x : Bool) (r : Record) → place_of (take 138 b) ≡ Some r → leb low r.number ≡ x
       → cond x (in_front r (pairs_in k (r.number + 1) (drop 138 b))) none ≡ some rs → Decoded (suc k) low b rs
   by_order true r p f e = by_rest (pairs_in k (r.number + 1) (drop 138 b)) r p (leb-true low r.number f) refl e
   by_order false r p f e = absurd (none-ne-some rs e)
 
-  by_place : (p : Place) → place_of (take 138 b) ≡ p → followed low p (λ n. pairs_in k n (drop 138 b)) ≡ some rs → Decoded (suc k) low b rs
-  by_place place.Damaged f e = absurd (none-ne-some rs e)
-  by_place (place.Pair r) f e = by_order (leb low r.number) r f refl e
+  by_place : (p : Optional Record) → place_of (take 138 b) ≡ p → followed low p (λ n. pairs_in k n (drop 138 b)) ≡ some rs → Decoded (suc k) low b rs
+  by_place None f e = absurd (none-ne-some rs e)
+  by_place (Some r) f e = by_order (leb low r.number) r f refl e
 
   by_zeros : (x : Bool) → all_zero b ≡ x
       → cond x (some []) (followed low (place_of (take 138 b)) (λ n. pairs_in k n (drop 138 b))) ≡ some rs → Decoded (suc k) low b rs

@@ -11,8 +11,7 @@ use Rattle.tle.specs.Legal.{legal}
 use Rattle.tle.specs.Read.{read_of}
 use Rattle.tle.specs.declared.Record.{Record}
 use Rattle.tle.specs.declared.Refusal.{Refusal}
-use Rattle.tle.specs.declared.Reading.{Reading}
-use Rattle.tle.specs.declared.Reading.TheVariants as reading
+use Rattle.std.specs.Prelude.{Err, None, Ok, Result, Some}
 use Rattle.tle.specs.declared.Line.{Line}
 use Rattle.tle.specs.declared.Line.TheVariants.{One, Two}
 use Rattle.tle.proofs.Accepted.{accepted_are_legal}
@@ -24,7 +23,6 @@ use Rattle.tle_writer.proofs.Writes.{written, exactly, length_line}
 use Rattle.tle_writer.proofs.Round.{read_back}
 use Rattle.tle_writer.proofs.Facts.{facts}
 use Rattle.roster.specs.Roster.{pair_bytes, pair_over, all_zero, same, as_written, place_of}
-use Rattle.roster.specs.declared.places.Place.TheVariants as place
 use Rattle.roster.proofs.Tests.{same_equal, same_refl}
 
 pub length_pair : (r : Record) → length (pair_bytes r) ≡ 138
@@ -97,33 +95,33 @@ second : (r : Record) → drop 69 (pair_bytes r) ≡ line_of Two r
 unfolding pair_bytes
 second r = drop_at (line_of One r) (line_of Two r) 69 (length_line One r)
 
-reads : (r : Record) → legal r ≡ true → read_of (take 69 (pair_bytes r)) (drop 69 (pair_bytes r)) ≡ reading.Record r
+reads : (r : Record) → legal r ≡ true → read_of (take 69 (pair_bytes r)) (drop 69 (pair_bytes r)) ≡ Ok r
 reads r h = rw (first r, second r) (read_back r h)
 
 -- as it stands in front of other bytes
-pub read_front : (r : Record) (l : List ℕ) → legal r ≡ true → read_of (take 69 (pair_bytes r ++ l)) (take 69 (drop 69 (pair_bytes r ++ l))) ≡ reading.Record r
+pub read_front : (r : Record) (l : List ℕ) → legal r ≡ true → read_of (take 69 (pair_bytes r ++ l)) (take 69 (drop 69 (pair_bytes r ++ l))) ≡ Ok r
 unfolding pair_bytes
 read_front r l h =
     rw (append_assoc (line_of One r) (line_of Two r) l, take_at (line_of One r) (line_of Two r ++ l) 69 (length_line One r), drop_at (line_of One r) (line_of Two r ++ l) 69 (length_line One r), take_at (line_of Two r) l 69 (length_line Two r))
     (read_back r h)
 
 -- what is written of a legal record is its place
-pub place_back : (r : Record) → legal r ≡ true → place_of (pair_bytes r) ≡ place.Pair r
+pub place_back : (r : Record) → legal r ≡ true → place_of (pair_bytes r) ≡ Some r
 unfolding place_of
 place_back r h = rw (reads r h, same_refl (pair_bytes r))
 
-compared : (t : Bool) (p : List ℕ) (r s : Record) → same p (pair_bytes r) ≡ t → cond t (place.Pair r) place.Damaged ≡ place.Pair s → (p ≡ pair_bytes s) × (r ≡ s)
+compared : (t : Bool) (p : List ℕ) (r s : Record) → same p (pair_bytes r) ≡ t → cond t (Some r) None ≡ Some s → (p ≡ pair_bytes s) × (r ≡ s)
 compared true p r s h e = let q : r ≡ s = cc in (same_equal p (pair_bytes r) h ∙ ap pair_bytes q, q)
 compared false p r s h e = (cc, cc)
 
-read_as : (g : Reading) (p l₁ l₂ : List ℕ) (s : Record) → read_of l₁ l₂ ≡ g → as_written p g ≡ place.Pair s → (p ≡ pair_bytes s) × (legal s ≡ true)
-read_as (reading.Refused why) p l₁ l₂ s h e = (cc, cc)
-read_as (reading.Record r) p l₁ l₂ s h e =
+read_as : (g : Result Record Refusal) (p l₁ l₂ : List ℕ) (s : Record) → read_of l₁ l₂ ≡ g → as_written p g ≡ Some s → (p ≡ pair_bytes s) × (legal s ≡ true)
+read_as (Err why) p l₁ l₂ s h e = (cc, cc)
+read_as (Ok r) p l₁ l₂ s h e =
     let c = compared (same p (pair_bytes r)) p r s refl e in
-    (c.0, accepted_are_legal l₁ l₂ s (h ∙ ap reading.Record c.1))
+    (c.0, accepted_are_legal l₁ l₂ s (h ∙ ap Ok c.1))
 
 -- and what a place gives is legal, and what is written of it is the place
-pub place_sound : (p : List ℕ) (s : Record) → place_of p ≡ place.Pair s → (p ≡ pair_bytes s) × (legal s ≡ true)
+pub place_sound : (p : List ℕ) (s : Record) → place_of p ≡ Some s → (p ≡ pair_bytes s) × (legal s ≡ true)
 unfolding place_of
 place_sound p s e = read_as (read_of (take 69 p) (drop 69 p)) p (take 69 p) (drop 69 p) s refl e
 
@@ -142,22 +140,22 @@ pub whole : (l : List ℕ) (r : Record) → length l ≡ 138 → legal r ≡ tru
 unfolding over
 whole l r h k = pair_over_lem r 0 l k (omega arith) ∙ rw (drop_of_length-le l {i = 138} (omega arith)) (append-nil (pair_bytes r))
 
-module _ (p : List ℕ) (long : length p ≡ 138) (g : Reading) (read : g ≡ read_of (take 69 p) (take 69 (drop 69 p))) where
+module _ (p : List ℕ) (long : length p ≡ 138) (g : Result Record Refusal) (read : g ≡ read_of (take 69 p) (take 69 (drop 69 p))) where
   both_lines : g ≡ read_of (take 69 p) (drop 69 p)
   both_lines = read ∙ ap (read_of (take 69 p)) (take_all 69 (drop 69 p) (rw length-drop (omega arith)))
 
-  pub unread : (why : Refusal) → g ≡ reading.Refused why → place.Damaged ≡ place_of p
+  pub unread : (why : Refusal) → g ≡ Err why → None ≡ place_of p
   unfolding place_of
   unread why e = rw (← both_lines, e)
 
-  pub found_legal : (r : Record) → g ≡ reading.Record r → legal r ≡ true
+  pub found_legal : (r : Record) → g ≡ Ok r → legal r ≡ true
   found_legal r e = accepted_are_legal (take 69 p) (drop 69 p) r (sym both_lines ∙ e)
 
-  module _ (r : Record) (e : g ≡ reading.Record r) (x : Bool) (tested : x ≡ same p (pair_bytes r)) where
-    pub is_pair : x ≡ true → place.Pair r ≡ place_of p
+  module _ (r : Record) (e : g ≡ Ok r) (x : Bool) (tested : x ≡ same p (pair_bytes r)) where
+    pub is_pair : x ≡ true → Some r ≡ place_of p
     unfolding place_of
     is_pair h = rw (← both_lines, e, ← tested, h)
 
-    pub is_other : x ≡ false → place.Damaged ≡ place_of p
+    pub is_other : x ≡ false → None ≡ place_of p
     unfolding place_of
     is_other h = rw (← both_lines, e, ← tested, h)

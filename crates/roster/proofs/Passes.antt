@@ -13,10 +13,8 @@ use Rattle.tle.specs.declared.Record.{Record}
 use Rattle.roster.specs.Records.{instant_of}
 use Rattle.roster.specs.Roster.{all_zero, place_of, in_front, pairs_in}
 use Rattle.roster.specs.Scan.{tallied, tallies, resumed, scanned_of}
-use Rattle.roster.specs.declared.places.Place.{Place}
-use Rattle.roster.specs.declared.places.Place.TheVariants as place
+use Rattle.std.specs.Prelude.{None, Option as Optional, Some}
 use Rattle.roster.specs.declared.scan.Tally.{Tally}
-use Rattle.roster.specs.declared.scan.Scanned.TheVariants as scanned
 use Rattle.roster.specs.declared.scan.Contents.{Contents}
 
 pub ended : (k low : ℕ) (b : List ℕ) → all_zero b ≡ true → pairs_in k low b ≡ some []
@@ -26,15 +24,15 @@ ended (suc k) low b h = rw h
 
 -- k + 1 places are left, and not all of them zeros
 module _ (k low : ℕ) (b : List ℕ) (nonzero : all_zero b ≡ false) where
-  pub damaged : place_of (take 138 b) ≡ place.Damaged → pairs_in (suc k) low b ≡ none
+  pub damaged : place_of (take 138 b) ≡ None → pairs_in (suc k) low b ≡ none
   unfolding pairs_in
   damaged e = rw (nonzero, e)
 
-  pub disordered : (r : Record) → place_of (take 138 b) ≡ place.Pair r → r.number < low → pairs_in (suc k) low b ≡ none
+  pub disordered : (r : Record) → place_of (take 138 b) ≡ Some r → r.number < low → pairs_in (suc k) low b ≡ none
   unfolding pairs_in
   disordered r e h = rw (nonzero, e, lt-leb low r.number h)
 
-  pub paired : (r : Record) → place_of (take 138 b) ≡ place.Pair r → low ≤ r.number → pairs_in (suc k) low b ≡ in_front r (pairs_in k (r.number + 1) (drop 138 b))
+  pub paired : (r : Record) → place_of (take 138 b) ≡ Some r → low ≤ r.number → pairs_in (suc k) low b ≡ in_front r (pairs_in k (r.number + 1) (drop 138 b))
   unfolding pairs_in
   paired r e h = rw (nonzero, e, le-leb low r.number h)
 
@@ -54,10 +52,10 @@ abbrev pub passing : Tally → ℕ → List ℕ → Option (List Record) → Con
 passing t i l o = record { found = resumed t o; row = stored_in i o l }
 
 abbrev over : Tally → List ℕ → Contents
-over t l = record { found = scanned.Roster t; row = l }
+over t l = record { found = Some t; row = l }
 
 abbrev lost : Contents
-lost = record { found = scanned.NoRoster; row = replicate 64 0 }
+lost = record { found = None; row = replicate 64 0 }
 
 passing_in_front : (t : Tally) (i : ℕ) (l : List ℕ) (r : Record) (o : Option (List Record))
     → passing t i l (in_front r o) ≡ passing (tallied t r) (i + 1) (set l i (instant_of r)) o
@@ -95,7 +93,7 @@ module _ (b : List ℕ) (n i : ℕ) (t : Tally) (l : List ℕ) (so_far : At b n 
     pass_ended h =
         sym (so_far ∙ ap (passing t i l) (ended (64 - i) t.low (drop (i * 138) b) (sym rested ∙ h)) ∙ passing_end t i l)
 
-    module _ (some_left : i < 64) (left_over : x ≡ false) (p : Place) (placed : p ≡ place_of (take (i * 138 + 138 - i * 138) (drop (i * 138) b))) where
+    module _ (some_left : i < 64) (left_over : x ≡ false) (p : Optional Record) (placed : p ≡ place_of (take (i * 138 + 138 - i * 138) (drop (i * 138) b))) where
       left : 64 - i ≡ suc (64 - (i + 1))
       left = omega arith
 
@@ -108,15 +106,15 @@ module _ (b : List ℕ) (n i : ℕ) (t : Tally) (l : List ℕ) (so_far : At b n 
       whole : scanned_of n (pairs_in 64 0 b) ≡ passing t i l (pairs_in (suc (64 - (i + 1))) t.low (drop (i * 138) b))
       whole = so_far ∙ ap (λ (k : ℕ). passing t i l (pairs_in k t.low (drop (i * 138) b))) left
 
-      pub pass_damaged : p ≡ place.Damaged → lost ≡ scanned_of n (pairs_in 64 0 b)
+      pub pass_damaged : p ≡ None → lost ≡ scanned_of n (pairs_in 64 0 b)
       pass_damaged e =
           sym (whole ∙ ap (passing t i l) (damaged (64 - (i + 1)) t.low (drop (i * 138) b) nonzero (put ∙ e)))
 
-      pub pass_disordered : (r : Record) → p ≡ place.Pair r → r.number < t.low → lost ≡ scanned_of n (pairs_in 64 0 b)
+      pub pass_disordered : (r : Record) → p ≡ Some r → r.number < t.low → lost ≡ scanned_of n (pairs_in 64 0 b)
       pass_disordered r e h =
           sym (whole ∙ ap (passing t i l) (disordered (64 - (i + 1)) t.low (drop (i * 138) b) nonzero r (put ∙ e) h))
 
-      pub pass_more : (r : Record) (u : Tally) (v : ℕ) → p ≡ place.Pair r → t.low ≤ r.number → u ≡ tallied t r → v ≡ instant_of r → At b n (i + 1) u (set l i v)
+      pub pass_more : (r : Record) (u : Tally) (v : ℕ) → p ≡ Some r → t.low ≤ r.number → u ≡ tallied t r → v ≡ instant_of r → At b n (i + 1) u (set l i v)
       unfolding tallied
       pass_more r u v e h f g =
           let far : i * 138 + 138 ≡ (i + 1) * 138 = omega arith in

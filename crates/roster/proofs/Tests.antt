@@ -7,6 +7,7 @@ use native.Mathlib.Numerals.{add-one}
 use native.Mathlib.Omega.{arith}
 use borrow.Author.Tests.{eq-eqb, ne_eqb, eqb-true}
 use lib.Dec.{eqb}
+use lib.Pointwise.{pointwise}
 use lib.ListN.{length, drop, get_or, replicate, drop_of_length-le}
 use lib.Seq.{drop-cons}
 use Rattle.tle_writer.proofs.Facts.{both}
@@ -59,26 +60,13 @@ unfolding same
 same_refl [] = refl
 same_refl (x ∷ a) = rw (eq-eqb x x refl) (same_refl a)
 
--- place by place
-pub same_off : (a b : List ℕ) → (length a ≡ length b → ⊥) → false ≡ same a b
-same_off a b h = by (same a b) refl
-  where
-    by : (x : Bool) → same a b ≡ x → false ≡ x
-    by true e = absurd (h (ap length (same_equal a b e)))
-    by false e = refl
-
-module _ (a b : List ℕ) (i : ℕ) (h : i < length a) (g : i < length b) where
-  pub same_more : get_or a i 0 ≡ get_or b i 0 → same (drop i a) (drop i b) ≡ same (drop (i + 1) a) (drop (i + 1) b)
-  unfolding same
-  same_more e = rw (add-one, drop-cons a i 0 h, drop-cons b i 0 g, eq-eqb (get_or a i 0) (get_or b i 0) e)
-
-  pub same_stop : (get_or a i 0 ≡ get_or b i 0 → ⊥) → false ≡ same (drop i a) (drop i b)
-  unfolding same
-  same_stop n = rw (drop-cons a i 0 h, drop-cons b i 0 g, ne_eqb (get_or a i 0) (get_or b i 0) n)
-
-pub same_end : (a b : List ℕ) (i : ℕ) → length a ≤ i → length b ≤ i → true ≡ same (drop i a) (drop i b)
+-- as `==` has it
+pub same_pointwise : (a b : List ℕ) → pointwise eqb a b ≡ same a b
 unfolding same
-same_end a b i h g = rw (drop_of_length-le a {i = i} h, drop_of_length-le b {i = i} g)
+same_pointwise [] [] = refl
+same_pointwise [] (y ∷ b) = refl
+same_pointwise (x ∷ a) [] = refl
+same_pointwise (x ∷ a) (y ∷ b) = rw (same_pointwise a b) refl
 
 -- a test that holds of equal bytes alone
 pub same_as : (x y : Bool) (a b : List ℕ) → same a b ≡ y → (x ≡ true → a ≡ b) → (a ≡ b → x ≡ true) → x ≡ y

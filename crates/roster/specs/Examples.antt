@@ -1,5 +1,5 @@
 -- Worked examples, proved by computation.
-use Rattle.std.specs.Prelude.{ℕ, ◌≡◌, refl, take}
+use Rattle.std.specs.Prelude.{ℕ, ◌≡◌, refl, take, None}
 use mathlib.Core.List.{[], ◌∷◌, ◌++◌, flat_map}
 use Rattle.instant.specs.Calendar.{days_in, last_day, day_in_range, days_before, epoch_micros}
 use Rattle.text.specs.Output.{bytes}
@@ -15,7 +15,6 @@ use Rattle.roster.specs.Packed.{packed}
 use Rattle.roster.specs.Records.{instant_of, lodged, withdrawn}
 use Rattle.roster.specs.Roster.{place_of}
 use Rattle.roster.specs.Row.{row_of}
-use Rattle.roster.specs.declared.places.Place.TheVariants as place
 
 -- the example of document 01 with another number, year and day
 abbrev pub at : ℕ → ℕ → ℕ → Record
@@ -54,7 +53,7 @@ unfolding withdrawn
 closed = refl
 
 -- document 02, wish 3: a place that holds day 366.5 of 2001 is no pair, whoever wrote it
-short_year : place_of (bytes "1 00005U 58002B   01366.50000000  .00000023  00000-0  28098-4 0  4756" ++ line2) ≡ place.Damaged
+short_year : place_of (bytes "1 00005U 58002B   01366.50000000  .00000023  00000-0  28098-4 0  4756" ++ line2) ≡ None
 unfolding place_of read_of form_of pair_of verdict_of agreed sum fields_of ranges_of day_in_range last_day days_in number_at catalogue_of first_of position class_of designator_at year_of day_at ndot_at scaled_at degrees_at motion_at value_on digit_of signed minus
 short_year = refl
 

@@ -1,9 +1,8 @@
 -- Document 02, wish 2, of the records themselves: a list by rising catalogue number.
-use Rattle.std.specs.Prelude.{ℕ, ◌+◌, ◌≤◌, ◌≡◌, true, cond, List, [], ◌∷◌, eqb, ltb}
+use Rattle.std.specs.Prelude.{ℕ, ◌+◌, ◌≤◌, ◌≡◌, true, cond, List, [], ◌∷◌, eqb, ltb, None, Option as Optional, Some}
 use Rattle.std.proofs.Math.Option.{Option, none, some}
 use Rattle.instant.specs.Calendar.{epoch_micros}
-use Rattle.instant.specs.declared.Epoch.{Epoch}
-use Rattle.instant.specs.declared.Epoch.TheVariants as epoch
+use Rattle.instant.specs.declared.Instant.{Instant}
 use Rattle.tle.specs.Legal.{legal}
 use Rattle.tle.specs.declared.Record.{Record}
 
@@ -22,9 +21,9 @@ unfoldable pub instant_of : Record → ℕ
 instant_of r = epoch_micros r.year r.day
 
 -- the instant that an epoch is, 0 for one outside the calendar: of a legal record, its instant
-abbrev pub micros : Epoch → ℕ
-micros (epoch.At t) = t.0
-micros epoch.Outside = 0
+abbrev pub micros : Optional Instant → ℕ
+micros (Some t) = t.0
+micros None = 0
 
 -- "Lodging a pair replaces the one of that number"; else it stands in order
 unfoldable pub lodged : Record → List Record → List Record

@@ -1,17 +1,14 @@
 -- Document 02, wish 2: the bytes of a roster, and the roster that a buffer holds.
-use Rattle.std.specs.Prelude.{ℕ, zero, suc, ◌+◌, Bool, true, false, cond, ◌&&◌, List, [], ◌∷◌, ◌++◌, eqb, leb, length, take, drop}
+use Rattle.std.specs.Prelude.{ℕ, zero, suc, ◌+◌, Bool, true, false, cond, ◌&&◌, List, [], ◌∷◌, ◌++◌, eqb, leb, length, take, drop, Err, None, Ok, Option as Optional, Result, Some}
 use Rattle.std.proofs.Math.Option.{Option, none, some}
 use Rattle.tle.specs.Legal.{legal}
 use Rattle.tle.specs.Read.{read_of}
 use Rattle.tle.specs.declared.Record.{Record}
-use Rattle.tle.specs.declared.Reading.{Reading}
-use Rattle.tle.specs.declared.Reading.TheVariants as reading
+use Rattle.tle.specs.declared.Refusal.{Refusal}
 use Rattle.tle.specs.declared.Line.TheVariants.{One, Two}
 use Rattle.tle_writer.specs.Lines.{line_of}
 use Rattle.tle_writer.specs.Over.{over}
 use Rattle.roster.specs.Packed.{packed}
-use Rattle.roster.specs.declared.places.Place.{Place}
-use Rattle.roster.specs.declared.places.Place.TheVariants as place
 
 -- a pair "as written by us": line 1 and line 2, 138 bytes
 unfoldable pub pair_bytes : Record → List ℕ
@@ -36,12 +33,12 @@ same (x ∷ xs) [] = false
 same (x ∷ xs) (y ∷ ys) = eqb x y && same xs ys
 
 -- a pair that is read, where its bytes are those that we write of it
-abbrev pub as_written : List ℕ → Reading → Place
-as_written p (reading.Refused why) = place.Damaged
-as_written p (reading.Record r) = cond (same p (pair_bytes r)) (place.Pair r) place.Damaged
+abbrev pub as_written : List ℕ → Result Record Refusal → Optional Record
+as_written p (Err why) = None
+as_written p (Ok r) = cond (same p (pair_bytes r)) (Some r) None
 
 -- the pair of a place of 138 bytes
-unfoldable pub place_of : List ℕ → Place
+unfoldable pub place_of : List ℕ → Optional Record
 place_of p = as_written p (read_of (take 69 p) (drop 69 p))
 
 abbrev pub in_front : Record → Option (List Record) → Option (List Record)
@@ -49,9 +46,9 @@ in_front r none = none
 in_front r (some rs) = some (r ∷ rs)
 
 -- a place's pair, of the number low or above, in front of the pairs that follow
-abbrev pub followed : ℕ → Place → (ℕ → Option (List Record)) → Option (List Record)
-followed low place.Damaged rest = none
-followed low (place.Pair r) rest = cond (leb low r.number) (in_front r (rest (r.number + 1))) none
+abbrev pub followed : ℕ → Optional Record → (ℕ → Option (List Record)) → Option (List Record)
+followed low None rest = none
+followed low (Some r) rest = cond (leb low r.number) (in_front r (rest (r.number + 1))) none
 
 -- the pairs of k places, of the numbers from low on: none where zeros alone are left
 unfoldable pub pairs_in : ℕ → ℕ → List ℕ → Option (List Record)

@@ -1,12 +1,10 @@
 -- What one pass over a buffer finds of a number, with the instants of its pairs.
-use Rattle.std.specs.Prelude.{ℕ, ◌+◌, true, false, cond, List, [], ◌∷◌, eqb, ltb, replicate}
+use Rattle.std.specs.Prelude.{ℕ, ◌+◌, true, false, cond, List, [], ◌∷◌, eqb, ltb, replicate, None, Option as Optional, Some}
 use Rattle.std.proofs.Math.Option.{Option, none, some}
 use Rattle.tle.specs.declared.Record.{Record}
 use Rattle.roster.specs.Roster.{roster_of}
 use Rattle.roster.specs.Row.{row_of, roster_with}
 use Rattle.roster.specs.declared.scan.Tally.{Tally}
-use Rattle.roster.specs.declared.scan.Scanned.{Scanned}
-use Rattle.roster.specs.declared.scan.Scanned.TheVariants as scanned
 use Rattle.roster.specs.declared.scan.Contents.{Contents}
 
 -- how many pairs, how many below the number, whether one has it, and the least number that may come next
@@ -27,9 +25,9 @@ tallies t [] = t
 tallies t (r ∷ rs) = tallies (tallied t r) rs
 
 -- the tally of the pairs that are left, where they are a roster's
-abbrev pub resumed : Tally → Option (List Record) → Scanned
-resumed t none = scanned.NoRoster
-resumed t (some rs) = scanned.Roster (tallies t rs)
+abbrev pub resumed : Tally → Option (List Record) → Optional Tally
+resumed t none = None
+resumed t (some rs) = Some (tallies t rs)
 
 -- the row of a roster that was found; zeros where there is none
 abbrev pub row_in : Option (List Record) → List ℕ
@@ -43,5 +41,5 @@ unfoldable pub scan_of : ℕ → List ℕ → Contents
 scan_of n b = scanned_of n (roster_of b)
 
 -- the same of a buffer and the row beside it
-unfoldable pub judged_of : ℕ → List ℕ → List ℕ → Scanned
+unfoldable pub judged_of : ℕ → List ℕ → List ℕ → Optional Tally
 judged_of n b row = resumed (start n) (roster_with b row)

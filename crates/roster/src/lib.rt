@@ -11,7 +11,7 @@ mod places;
 mod scan;
 
 pub use places::{all_zero, put_pair};
-pub use scan::{Contents, Scanned, Tally, instant_of, judge, scan_buffer};
+pub use scan::{Contents, Tally, instant_of, judge, scan_buffer};
 
 // Whether the buffer is no roster or has another length, or the row has another length or disagrees with
 // the pairs.
@@ -20,7 +20,7 @@ pub fn is_no_roster(roster: &[u8], row: &[u64]) -> bool
 {
     let found = judge(roster, row, 0);
     match found {
-        Scanned::Roster(_) => false,
-        Scanned::NoRoster => true,
+        Some(_) => false,
+        None => true,
     }
 }

@@ -4,25 +4,16 @@ ghost use Rattle.std.specs.Prelude.{◌≡◌, true, length};
 ghost use Rattle.tle.specs.Legal.{legal};
 ghost use Rattle.roster.specs.Roster.{all_zero, same, pair_bytes, pair_over, place_of};
 
-use tle::{Form, Line, Reading, Record, read_form, read_meaning};
+use tle::{Line, Record, read_form, read_meaning};
 use tle_writer::fill_line;
-
-// What a place that is not all zeros holds.
-#[derive(Clone, Copy)]
-pub enum Place {
-    Pair(Record),
-    Damaged,
-}
 
 // Without a branch on a byte, so that many are looked at at once.
 fn zeros(s: &[u8]) -> bool
     ensures { result ≡ all_zero s.now }
 {
     let mut clear = true;
-    let mut i = 0;
-    while i < s.len() {
-        clear = clear & (s[i] == 0);
-        i += 1;
+    for &b in s {
+        clear = clear & (b == 0);
     }
     clear
 }
@@ -52,8 +43,8 @@ pub fn put_pair(b: &mut [u8], at: usize, r: Record)
     }
     let half = at + 69;
     let end = at + 138;
-    fill_line(r, Line::One, &mut b[at..half]);
-    fill_line(r, Line::Two, &mut b[half..end]);
+    let _ = fill_line(r, Line::One, &mut b[at..half]);
+    let _ = fill_line(r, Line::Two, &mut b[half..end]);
 }
 
 // Whether the bytes are the pair as we write it.
@@ -67,20 +58,20 @@ fn is_written(p: &[u8], r: Record) -> bool
 }
 
 // What the 138 bytes of a place hold.
-pub(crate) fn place_at(p: &[u8]) -> Place
+pub(crate) fn place_at(p: &[u8]) -> Option<Record>
     requires { length p.now ≡ 138 }
     ensures { result ≡ place_of p.now }
 {
     let form = read_form(&p[0..69], &p[69..138]);
-    let Form::Fields(fields) = form else {
-        return Place::Damaged;
+    let Ok(fields) = form else {
+        return None;
     };
     let reading = read_meaning(fields);
-    let Reading::Record(record) = reading else {
-        return Place::Damaged;
+    let Ok(record) = reading else {
+        return None;
     };
     if is_written(p, record) {
-        return Place::Pair(record);
+        return Some(record);
     }
-    Place::Damaged
+    None
 }

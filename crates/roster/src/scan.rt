@@ -7,8 +7,8 @@ ghost use Rattle.roster.specs.Records.{micros};
 ghost use Rattle.roster.specs.Roster.{same, pairs_in};
 ghost use Rattle.roster.specs.Scan.{tallied, scanned_of, scan_of, judged_of};
 
-use super::places::{Place, all_zero, place_at};
-use instant::{Epoch, Instant};
+use super::places::{all_zero, place_at};
+use instant::Instant;
 use tle::{Record, epoch};
 
 // Of the pairs passed: how many, how many below a number, and whether one has it; low is the least
@@ -22,16 +22,10 @@ pub struct Tally {
     pub low: u64,
 }
 
-#[derive(Clone, Copy)]
-pub enum Scanned {
-    Roster(Tally),
-    NoRoster,
-}
-
 // What a pass found, and the instants of the pairs: 0 past the last, and zeros where it is no roster.
 #[derive(Clone, Copy)]
 pub struct Contents {
-    pub found: Scanned,
+    pub found: Option<Tally>,
     pub row: [u64; 64],
 }
 
@@ -41,8 +35,8 @@ pub fn instant_of(r: Record) -> Instant
 {
     let e = epoch(r);
     match e {
-        Epoch::At(t) => t,
-        Epoch::Outside => Instant(0),
+        Some(t) => t,
+        None => Instant(0),
     }
 }
 
@@ -94,35 +88,33 @@ fn scan_places(b: &[u8], number: u64) -> Contents
         low: 0,
     };
     let mut row = [0u64; 64];
-    let mut i = 0;
-    while i < 64 {
+    for i in 0..64 {
         let at = i * 138;
         let end = at + 138;
         if all_zero(&b[at..]) {
             return Contents {
-                found: Scanned::Roster(t),
+                found: Some(t),
                 row,
             };
         }
         let place = place_at(&b[at..end]);
-        let Place::Pair(r) = place else {
+        let Some(r) = place else {
             return Contents {
-                found: Scanned::NoRoster,
+                found: None,
                 row: [0; 64],
             };
         };
         if r.number < t.low {
             return Contents {
-                found: Scanned::NoRoster,
+                found: None,
                 row: [0; 64],
             };
         }
         row[i] = instant_of(r).0;
         t = counted(t, r);
-        i += 1;
     }
     Contents {
-        found: Scanned::Roster(t),
+        found: Some(t),
         row,
     }
 }
@@ -133,7 +125,7 @@ pub fn scan_buffer(b: &[u8], number: u64) -> Contents
 {
     if b.len() != 8832 {
         return Contents {
-            found: Scanned::NoRoster,
+            found: None,
             row: [0; 64],
         };
     }
@@ -143,21 +135,11 @@ pub fn scan_buffer(b: &[u8], number: u64) -> Contents
 fn same_row(row: &[u64], instants: &[u64]) -> bool
     ensures { result ≡ same row.now instants.now }
 {
-    if row.len() != instants.len() {
-        return false;
-    }
-    let mut i = 0;
-    while i < row.len() {
-        if row[i] != instants[i] {
-            return false;
-        }
-        i += 1;
-    }
-    true
+    row == instants
 }
 
 // Whether the buffer is a roster and the row its instants, and what it holds of the number.
-pub fn judge(b: &[u8], row: &[u64], number: u64) -> Scanned
+pub fn judge(b: &[u8], row: &[u64], number: u64) -> Option<Tally>
     ensures { result ≡ judged_of number b.now row.now }
 {
     let s = scan_buffer(b, number);
@@ -165,5 +147,5 @@ pub fn judge(b: &[u8], row: &[u64], number: u64) -> Scanned
     if same_row(row, &instants) {
         return s.found;
     }
-    Scanned::NoRoster
+    None
 }

@@ -1,5 +1,5 @@
 -- A roster and its row that were judged: what each call makes of the records, of the bytes and of the instants.
-use Prim.Native.Nat.{ℕ, suc, ◌+◌, ◌-◌, ◌*◌, ◌<◌, ◌≤◌}
+use Prim.Native.Nat.{ℕ, ◌+◌, ◌-◌, ◌*◌, ◌<◌, ◌≤◌}
 use mathlib.Core.Path.{◌≡◌, refl, ap, sym, ◌∙◌}
 use mathlib.Core.Bool.{Bool, true, false}
 use mathlib.Core.List.{List, [], ◌∷◌, ◌++◌}
@@ -8,33 +8,31 @@ use native.Mathlib.Nat.{mul-le-mul_right}
 use native.Mathlib.Numerals.{add-one}
 use native.Mathlib.Omega.{arith}
 use borrow.Author.Tests.{le-leb, lt-leb, lt-ltb, le-ltb, eq-eqb, ne_eqb}
-use lib.ListN.{length, take, drop, set, get_or, replicate, length-append, length-drop}
-use lib.Seq.{set_split, drop-drop, get_or-drop, length-take-le}
+use lib.ListN.{length, drop, set, get_or, replicate, length-append}
+use lib.Seq.{set_split, drop-drop, get_or-drop}
 use Rattle.tle.specs.Legal.{legal}
 use Rattle.tle.specs.Read.{read_of}
 use Rattle.tle.specs.declared.Record.{Record}
 use Rattle.tle.specs.declared.Refusal.{Refusal}
-use Rattle.tle.specs.declared.Reading.{Reading}
-use Rattle.tle.specs.declared.Reading.TheVariants as reading
+use Rattle.std.specs.Prelude.{Err, Ok, Result}
+use Rattle.roster_calls.specs.declared.LodgingRefusal.{LodgingRefusal}
+use Rattle.roster_calls.specs.declared.LodgingRefusal.TheVariants as lodging
+use Rattle.roster_calls.specs.declared.WithdrawalRefusal.{WithdrawalRefusal}
+use Rattle.roster_calls.specs.declared.WithdrawalRefusal.TheVariants as withdrawal
+use Rattle.roster_calls.specs.declared.FillingRefusal.{FillingRefusal}
+use Rattle.roster_calls.specs.declared.FillingRefusal.TheVariants as filling
 use Rattle.tle_writer.specs.Over.{over}
 use Rattle.roster.specs.Packed.{packed}
-use Rattle.roster.specs.Shift.{opened, moved_down, closed}
+use Rattle.roster.specs.Shift.{opened, closed}
 use Rattle.roster.specs.Records.{lookup, lodged, withdrawn, instant_of}
 use Rattle.roster.specs.Roster.{pair_bytes, pair_over, bytes_of, roster_of}
 use Rattle.roster.specs.Row.{instant_at, row_of, roster_with}
 use Rattle.roster_calls.specs.Calls.{answered, lodged_by, lodging_of, lodged_over, lodged_row, withdrawal_of, withdrawn_over, withdrawn_row, filling_of, filled_row}
 use Rattle.roster.specs.declared.scan.Tally.{Tally}
-use Rattle.roster_calls.specs.declared.Lodging.{Lodging}
-use Rattle.roster_calls.specs.declared.Lodging.TheVariants as lodging
-use Rattle.roster_calls.specs.declared.Withdrawal.{Withdrawal}
-use Rattle.roster_calls.specs.declared.Withdrawal.TheVariants as withdrawal
-use Rattle.roster_calls.specs.declared.Filling.{Filling}
-use Rattle.roster_calls.specs.declared.Filling.TheVariants as filling
 use Rattle.roster.proofs.Pairs.{length_pair, pair_over_lem}
 use Rattle.roster.proofs.Sorted.{below, below_short, Standing, Missing, View, here, away, view}
 use Rattle.roster.proofs.Packing.{length_packed, replaced, inserted, removed, place_of_lem}
 use Rattle.roster.proofs.Found.{Found, there}
-use Rattle.roster_calls.proofs.Shifts.{closing}
 use Rattle.roster_calls.proofs.Kept.{element_at}
 
 -- ── lent memory that holds the records, w numbers each ──
@@ -102,17 +100,6 @@ set_over l i v h =
     let e : i * 1 ≡ i = omega arith in
     set_split l i v h ∙ rw (e, drop-drop 1 i l, add-one i)
 
--- the last of what was moved down set to 0
-pub set_closed : (l m : List ℕ) (at : ℕ) → at + 1 ≤ length l → m ≡ moved_down at 1 l → length m ≡ length l → set m (length l - 1) 0 ≡ closed at 1 l
-set_closed l m at h e f =
-    let k : length l - 1 < length m = omega arith in
-    let d : length m - (length l - 1) ≡ 1 = omega arith in
-    let s : suc (length l - 1) ≡ length l - 1 + 1 = omega arith in
-    let w : length (take (length m - (length l - 1)) (drop (length l - 1) m)) ≡ 1 = rw d (length-take-le 1 (drop (length l - 1) m) (rw length-drop (omega arith))) in
-    set_split m (length l - 1) 0 k
-    ∙ ap (λ (t : List ℕ). take (length l - 1) m ++ (0 ∷ t)) (ap (λ (j : ℕ). drop j m) s ∙ sym (drop-drop 1 (length l - 1) m) ∙ ap (λ (j : ℕ). drop j (drop (length l - 1) m)) (sym d))
-    ∙ closing l m (0 ∷ []) at 1 h e f (sym (ap (λ (j : ℕ). replicate j 0) w))
-
 -- the instant in the place of the number n is that of its pair
 pub epoch_held : (n : ℕ) (rs : List Record) (row : List ℕ) (at : ℕ) → row ≡ row_of rs → at ≡ below n rs → (S : Standing n rs) → get_or row at 0 ≡ instant_of S.s
 unfolding packed
@@ -165,10 +152,10 @@ module _ (n : ℕ) (b row : List ℕ) (t : Tally) (F : Found n b row t) where
 
 -- ── lodging a record that was read ──
 
-abbrev pub Answers : Reading → List ℕ → List ℕ → Lodging → List ℕ → List ℕ → Type 0
+abbrev pub Answers : Result Record Refusal → List ℕ → List ℕ → Result (Unit {0}) LodgingRefusal → List ℕ → List ℕ → Type 0
 Answers g b row a b' row' = (a ≡ answered g (roster_with b row)) × (b' ≡ lodged_by bytes_of g (roster_with b row) b) × (row' ≡ lodged_by row_of g (roster_with b row) row)
 
-pub refused : (r : Record) (b row : List ℕ) → roster_with b row ≡ none → Answers (reading.Record r) b row lodging.NoRoster b row
+pub refused : (r : Record) (b row : List ℕ) → roster_with b row ≡ none → Answers (Ok r) b row (Err lodging.NoRoster) b row
 refused r b row e = (rw e, rw e, rw e)
 
 module _ (r : Record) (b row : List ℕ) (t : Tally) (F : Found r.number b row t) (v : ℕ) (since : v ≡ instant_of r) where
@@ -179,12 +166,12 @@ module _ (r : Record) (b row : List ℕ) (t : Tally) (F : Found r.number b row t
     old : get_or row t.below 0 ≡ instant_of held.s
     old = epoch_held r.number F.records row t.below F.instants F.place held
 
-    pub older : v < get_or row t.below 0 → Answers (reading.Record r) b row lodging.Older b row
+    pub older : v < get_or row t.below 0 → Answers (Ok r) b row (Err lodging.Older) b row
     older h =
         let k = lt-ltb (instant_of r) (instant_of held.s) (omega (arith, since, old)) in
         (rw (F.roster, held.found, k), rw (F.roster, held.found, k), rw (F.roster, held.found, k))
 
-    pub newer : (b' : List ℕ) → get_or row t.below 0 ≤ v → legal r ≡ true → b' ≡ pair_over (t.below * 138) r b → Answers (reading.Record r) b row lodging.Lodged b' (set row t.below v)
+    pub newer : (b' : List ℕ) → get_or row t.below 0 ≤ v → legal r ≡ true → b' ≡ pair_over (t.below * 138) r b → Answers (Ok r) b row (Ok tt) b' (set row t.below v)
     newer b' h l f =
         let k = le-ltb (instant_of r) (instant_of held.s) (omega (arith, since, old)) in (
           rw (F.roster, held.found, k),
@@ -200,14 +187,14 @@ module _ (r : Record) (b row : List ℕ) (t : Tally) (F : Found r.number b row t
     abbrev gap : Missing r.number F.records
     gap = M r.number b row t F e
 
-    pub full : 64 ≤ t.count → Answers (reading.Record r) b row lodging.Full b row
+    pub full : 64 ≤ t.count → Answers (Ok r) b row (Err lodging.Full) b row
     full h =
         let k = le-leb 64 (length F.records) (omega (arith, F.count)) in
         (rw (F.roster, gap.none_found, k), rw (F.roster, gap.none_found, k), rw (F.roster, gap.none_found, k))
 
     pub fresh : (m b' l : List ℕ) → t.count < 64 → legal r ≡ true → length m ≡ length b → length l ≡ length row
         → m ≡ opened (t.below * 138) 138 b → b' ≡ pair_over (t.below * 138) r m → l ≡ opened t.below 1 row
-        → Answers (reading.Record r) b row lodging.Lodged b' (set l t.below v)
+        → Answers (Ok r) b row (Ok tt) b' (set l t.below v)
     fresh m b' l h q x y p f g =
         let k = lt-leb 64 (length F.records) (omega (arith, F.count)) in
         let o : t.below ≡ t.below * 1 = omega arith in (
@@ -224,31 +211,31 @@ module _ (r : Record) (b row : List ℕ) (t : Tally) (F : Found r.number b row t
 
 -- ── lodging two lines ──
 
-abbrev pub Lodges : List ℕ → List ℕ → List ℕ → List ℕ → Lodging → List ℕ → List ℕ → Type 0
+abbrev pub Lodges : List ℕ → List ℕ → List ℕ → List ℕ → Result (Unit {0}) LodgingRefusal → List ℕ → List ℕ → Type 0
 Lodges b row line1 line2 a b' row' = (a ≡ lodging_of b row line1 line2) × (b' ≡ lodged_over b row line1 line2) × (row' ≡ lodged_row b row line1 line2)
 
-pub unread : (b row line1 line2 : List ℕ) (g : Reading) (why : Refusal) → g ≡ read_of line1 line2 → g ≡ reading.Refused why
-    → Lodges b row line1 line2 (lodging.Unread why) b row
+pub unread : (b row line1 line2 : List ℕ) (g : Result Record Refusal) (why : Refusal) → g ≡ read_of line1 line2 → g ≡ Err why
+    → Lodges b row line1 line2 (Err (lodging.Unread why)) b row
 unfolding lodging_of lodged_over lodged_row
 unread b row line1 line2 g why e f = (rw (← e, f), rw (← e, f), rw (← e, f))
 
-pub read : (b row line1 line2 : List ℕ) (g : Reading) (r : Record) (a : Lodging) (b' row' : List ℕ) → g ≡ read_of line1 line2 → g ≡ reading.Record r
-    → Answers (reading.Record r) b row a b' row' → Lodges b row line1 line2 a b' row'
+pub read : (b row line1 line2 : List ℕ) (g : Result Record Refusal) (r : Record) (a : Result (Unit {0}) LodgingRefusal) (b' row' : List ℕ) → g ≡ read_of line1 line2 → g ≡ Ok r
+    → Answers (Ok r) b row a b' row' → Lodges b row line1 line2 a b' row'
 unfolding lodging_of lodged_over lodged_row
 read b row line1 line2 g r a b' row' e f l = (rw (← e, f) l.0, rw (← e, f) l.1, rw (← e, f) l.2)
 
 -- ── withdrawing ──
 
-abbrev pub Withdraws : ℕ → List ℕ → List ℕ → Withdrawal → List ℕ → List ℕ → Type 0
+abbrev pub Withdraws : ℕ → List ℕ → List ℕ → Result (Unit {0}) WithdrawalRefusal → List ℕ → List ℕ → Type 0
 Withdraws n b row a b' row' = (a ≡ withdrawal_of b row n) × (b' ≡ withdrawn_over b row n) × (row' ≡ withdrawn_row b row n)
 
-pub damaged : (n : ℕ) (b row : List ℕ) → roster_with b row ≡ none → Withdraws n b row withdrawal.NoRoster b row
+pub damaged : (n : ℕ) (b row : List ℕ) → roster_with b row ≡ none → Withdraws n b row (Err withdrawal.NoRoster) b row
 unfolding withdrawal_of withdrawn_over withdrawn_row
 damaged n b row e = (rw e, rw e, rw e)
 
 module _ (n : ℕ) (b row : List ℕ) (t : Tally) (F : Found n b row t) where
   pub taken : (b' row' : List ℕ) → t.present ≡ true → b' ≡ closed (t.below * 138) 138 b → row' ≡ closed t.below 1 row
-      → Withdraws n b row withdrawal.Withdrawn b' row'
+      → Withdraws n b row (Ok tt) b' row'
   unfolding withdrawal_of withdrawn_over withdrawn_row
   taken b' row' e f g =
       let s = S n b row t F e in
@@ -259,24 +246,24 @@ module _ (n : ℕ) (b row : List ℕ) (t : Tally) (F : Found n b row t) where
             (g ∙ ap (λ (j : ℕ). closed j 1 row) o ∙ remove instant_at 1 one n F.records row t.below F.instants F.place s F.room),
       )
 
-  pub absent : t.present ≡ false → Withdraws n b row withdrawal.Absent b row
+  pub absent : t.present ≡ false → Withdraws n b row (Err withdrawal.Absent) b row
   unfolding withdrawal_of withdrawn_over withdrawn_row
   absent e = let g = (M n b row t F e).none_found in (rw (F.roster, g), rw (F.roster, g), rw (F.roster, g))
 
 -- ── filling ──
 
-abbrev pub Fills : List ℕ → List ℕ → Filling → List ℕ → Type 0
+abbrev pub Fills : List ℕ → List ℕ → Result (Unit {0}) FillingRefusal → List ℕ → Type 0
 Fills b row a row' = (a ≡ filling_of b row) × (row' ≡ filled_row b row)
 
-pub fill_none : (b row : List ℕ) → roster_of b ≡ none → Fills b row filling.NoRoster row
+pub fill_none : (b row : List ℕ) → roster_of b ≡ none → Fills b row (Err filling.NoRoster) row
 unfolding filling_of filled_row
 fill_none b row e = (rw e, rw e)
 
 module _ (b row : List ℕ) (rs : List Record) (roster : roster_of b ≡ some rs) where
-  pub fill_short : (length row ≡ 64 → ⊥) → Fills b row filling.NoRoster row
+  pub fill_short : (length row ≡ 64 → ⊥) → Fills b row (Err filling.NoRoster) row
   unfolding filling_of filled_row
   fill_short h = let k = ne_eqb (length row) 64 h in (rw (roster, k), rw (roster, k))
 
-  pub fill_done : (row' : List ℕ) → length row ≡ 64 → row' ≡ row_of rs → Fills b row filling.Filled row'
+  pub fill_done : (row' : List ℕ) → length row ≡ 64 → row' ≡ row_of rs → Fills b row (Ok tt) row'
   unfolding filling_of filled_row
   fill_done row' h e = let k = eq-eqb (length row) 64 h in (rw (roster, k), rw (roster, k) e)

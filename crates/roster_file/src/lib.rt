@@ -7,7 +7,7 @@ ghost use Rattle.roster_file.specs.Answers.{Lodges, Withdraws};
 
 use files::{lock_file, read_file, read_file_or, replace_file, unlock_file};
 use kept_roster::{lodge_kept, withdraw_kept};
-use roster_calls::{Lodging, Withdrawal};
+use roster_calls::{LodgingRefusal, WithdrawalRefusal};
 
 // Where a call changed the roster, the file is replaced.
 fn keep(rt: HostRuntime, failed: &mut bool, name: &[u8], old: &[u8], new: &[u8])
@@ -27,7 +27,7 @@ fn lodge_over(
     new: &mut [u8],
     line1: &[u8],
     line2: &[u8],
-) -> Lodging
+) -> Result<(), LodgingRefusal>
     ensures { Lodges failed.old line1.now line2.now failed.new result }
 {
     let answer = lodge_kept(new, line1, line2);
@@ -43,7 +43,7 @@ fn lodge_locked(
     name: &[u8],
     line1: &[u8],
     line2: &[u8],
-) -> Lodging
+) -> Result<(), LodgingRefusal>
     ensures { Lodges failed.old line1.now line2.now failed.new result }
 {
     let mut old = [0u8; 8833];
@@ -59,12 +59,12 @@ pub fn lodge_in(
     name: &[u8],
     line1: &[u8],
     line2: &[u8],
-) -> Lodging
+) -> Result<(), LodgingRefusal>
     ensures { Lodges failed.old line1.now line2.now failed.new result }
 {
     lock_file(rt, failed, name);
     if *failed {
-        return Lodging::NoRoster;
+        return Err(LodgingRefusal::NoRoster);
     }
     let answer = lodge_locked(rt, failed, name, line1, line2);
     unlock_file(rt, failed, name);
@@ -78,7 +78,7 @@ fn withdraw_over(
     old: &[u8],
     new: &mut [u8],
     number: u64,
-) -> Withdrawal
+) -> Result<(), WithdrawalRefusal>
     ensures { Withdraws failed.old number failed.new result }
 {
     let answer = withdraw_kept(new, number);
@@ -86,7 +86,12 @@ fn withdraw_over(
     answer
 }
 
-fn withdraw_locked(rt: HostRuntime, failed: &mut bool, name: &[u8], number: u64) -> Withdrawal
+fn withdraw_locked(
+    rt: HostRuntime,
+    failed: &mut bool,
+    name: &[u8],
+    number: u64,
+) -> Result<(), WithdrawalRefusal>
     ensures { Withdraws failed.old number failed.new result }
 {
     let mut old = [0u8; 8833];
@@ -96,12 +101,17 @@ fn withdraw_locked(rt: HostRuntime, failed: &mut bool, name: &[u8], number: u64)
 }
 
 // Withdraws a number, locked; after a failure the answer says nothing.
-pub fn withdraw_in(rt: HostRuntime, failed: &mut bool, name: &[u8], number: u64) -> Withdrawal
+pub fn withdraw_in(
+    rt: HostRuntime,
+    failed: &mut bool,
+    name: &[u8],
+    number: u64,
+) -> Result<(), WithdrawalRefusal>
     ensures { Withdraws failed.old number failed.new result }
 {
     lock_file(rt, failed, name);
     if *failed {
-        return Withdrawal::NoRoster;
+        return Err(WithdrawalRefusal::NoRoster);
     }
     let answer = withdraw_locked(rt, failed, name, number);
     unlock_file(rt, failed, name);

@@ -9,15 +9,15 @@ use borrow.Author.Tests.{eq-eqb, ne_eqb, eqb-true, eqb-false}
 use lib.Dec.{eqb}
 use Rattle.tle.specs.Read.{read_of}
 use Rattle.tle.specs.declared.Record.{Record}
-use Rattle.tle.specs.declared.Reading.{Reading}
-use Rattle.tle.specs.declared.Reading.TheVariants as reading
+use Rattle.std.specs.Prelude.{Err, Ok, Result}
+use Rattle.tle.specs.declared.Refusal.{Refusal}
 use Rattle.roster_script.specs.Total.{Call, Lodge, Withdraw, Fill, Lodges, Withdraws, NoCall, LodgedIn, NotSinceWithdrawn, LastAccepted}
 
 -- ── what stands under n, call by call ──
 
-abbrev pub lodges_over : ℕ → Reading → Option Record → Option Record
-lodges_over n (reading.Record r) o = cond (eqb r.number n) (some r) o
-lodges_over n (reading.Refused why) o = o
+abbrev pub lodges_over : ℕ → Result Record Refusal → Option Record → Option Record
+lodges_over n (Ok r) o = cond (eqb r.number n) (some r) o
+lodges_over n (Err why) o = o
 
 -- after an accepted call, where o stood before it
 abbrev pub effect : ℕ → Call → Option Record → Option Record
@@ -70,29 +70,29 @@ module _ (n : ℕ) (r : Record) (h : List Call) where
     by_withdrawal true m e f = absurd (none-ne-some r f)
     by_withdrawal false m e f = before f (eqb-false m n e, w) (λ s q. (λ z. z, l s q))
 
-    by_number : (x : Bool) (q : Record) (line1 line2 : List ℕ) → read_of line1 line2 ≡ reading.Record q → eqb q.number n ≡ x
+    by_number : (x : Bool) (q : Record) (line1 line2 : List ℕ) → read_of line1 line2 ≡ Ok q → eqb q.number n ≡ x
         → cond x (some q) o ≡ some r → Came n r o (Lodge line1 line2 ∷ h)
     by_number true q line1 line2 g e f =
         let i = some-injective q r f in
         within (record {
           later = h;
           number = ap (λ (s : Record). s.number) (sym i) ∙ eqb-true q.number n e;
-          lodged = record { earlier = []; call = Lodge line1 line2; lodges = g ∙ ap reading.Record i; order = refl };
+          lodged = record { earlier = []; call = Lodge line1 line2; lodges = g ∙ ap Ok i; order = refl };
           not_withdrawn = w;
           not_lodged = l;
         })
     by_number false q line1 line2 g e f =
         before f (λ z. z, w) (λ s k. (λ z. eqb-false q.number n e (ap number_read (sym g ∙ z) ∙ k), l s k))
       where
-        number_read : Reading → ℕ
-        number_read (reading.Record s) = s.number
-        number_read (reading.Refused why) = 0
+        number_read : Result Record Refusal → ℕ
+        number_read (Ok s) = s.number
+        number_read (Err why) = 0
 
-    by_reading : (g : Reading) (line1 line2 : List ℕ) → read_of line1 line2 ≡ g → lodges_over n g o ≡ some r → Came n r o (Lodge line1 line2 ∷ h)
-    by_reading (reading.Record q) line1 line2 e f = by_number (eqb q.number n) q line1 line2 e refl f
-    by_reading (reading.Refused why) line1 line2 e f = before f (λ z. z, w) (λ s k. (λ z. unread (sym e ∙ z), l s k))
+    by_reading : (g : Result Record Refusal) (line1 line2 : List ℕ) → read_of line1 line2 ≡ g → lodges_over n g o ≡ some r → Came n r o (Lodge line1 line2 ∷ h)
+    by_reading (Ok q) line1 line2 e f = by_number (eqb q.number n) q line1 line2 e refl f
+    by_reading (Err why) line1 line2 e f = before f (λ z. z, w) (λ s k. (λ z. unread (sym e ∙ z), l s k))
       where
-        unread : {s : Record} → reading.Refused why ≡ reading.Record s → ⊥
+        unread : {s : Record} → Err why ≡ Ok s → ⊥
         unread e = let z : ◌≡◌ {A = ℕ} 0 1 = cc in absurd (omega arith)
 
     by_call : (c : Call) → effect n c o ≡ some r → Came n r o (c ∷ h)
@@ -126,13 +126,13 @@ not_since_withdrawn n r h e =
 -- ── and back ──
 
 -- without a withdrawal some pair goes on standing
-still_read : (n : ℕ) (g : Reading) (r : Record) → (s : Record) × (lodges_over n g (some r) ≡ some s)
-still_read n (reading.Record q) r = by (eqb q.number n)
+still_read : (n : ℕ) (g : Result Record Refusal) (r : Record) → (s : Record) × (lodges_over n g (some r) ≡ some s)
+still_read n (Ok q) r = by (eqb q.number n)
   where
     by : (x : Bool) → (s : Record) × (cond x (some q) (some r) ≡ some s)
     by true = (q, refl)
     by false = (r, refl)
-still_read n (reading.Refused why) r = (r, refl)
+still_read n (Err why) r = (r, refl)
 
 still_one : (n : ℕ) (c : Call) (r : Record) → (Withdraws n c → ⊥) → (s : Record) × (effect n c (some r) ≡ some s)
 still_one n (Lodge line1 line2) r h = still_read n (read_of line1 line2) r

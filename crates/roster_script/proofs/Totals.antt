@@ -14,8 +14,9 @@ use Rattle.tle.specs.Refusals.{number_of}
 use Rattle.tle.specs.declared.Record.{Record}
 use Rattle.tle.specs.declared.Refusal.{Refusal}
 use Rattle.tle.specs.declared.Refusal.TheVariants.{Length, Start, Column, Checksum, Numbers, Range, NoForm}
-use Rattle.tle.specs.declared.Reading.{Reading}
-use Rattle.tle.specs.declared.Reading.TheVariants as reading
+use Rattle.std.specs.Prelude.{Err, Ok, Result}
+use Rattle.roster_calls.specs.declared.LodgingRefusal.{LodgingRefusal}
+use Rattle.roster_calls.specs.declared.LodgingRefusal.TheVariants as lodging
 use Rattle.tle.proofs.Accepted.{accepted_are_legal}
 use Rattle.roster.specs.Packed.{packed}
 use Rattle.roster.specs.Records.{Rising, end, lookup, lodged, withdrawn}
@@ -23,8 +24,6 @@ use Rattle.roster.specs.Roster.{bytes_of, roster_of}
 use Rattle.roster.specs.Row.{row_of, roster_with}
 use Rattle.roster_calls.specs.Calls.{lodging_number, withdrawal_number, ruling, answered, when_lodged, lodged_by, lodging_of, lodged_over, lodged_row, found_by, when_withdrawn, withdrawal_of, withdrawn_over, withdrawn_row, filling_of, filled_row}
 use Rattle.roster_script.specs.Total.{Call, Lodge, Withdraw, Fill, Lent, lent, answer_to, after, answers_to, after_all, empty_with, empty, accepted, Total, TotalKept, TotalFilled}
-use Rattle.roster_calls.specs.declared.Lodging.{Lodging}
-use Rattle.roster_calls.specs.declared.Lodging.TheVariants as lodging
 use Rattle.roster.proofs.Sorted.{view, lodged_rising, withdrawn_rising, withdrawn_short, lookup_lodged, lookup_withdrawn}
 use Rattle.roster.proofs.Decode.{roster_back}
 use Rattle.roster.proofs.Rows.{rows_exactly, long_row}
@@ -65,9 +64,9 @@ module _ (m : Lent) (h : List Call) (K : Kept m h) where
   unread : (why : Refusal) (c : Call) → Kept m (noted h c (number_of why))
   unread why c = rw (refusal_number_lem why) refused
 
-  lodge_by : (v : Lodging) (r : Record) (line1 line2 : List ℕ) → read_of line1 line2 ≡ reading.Record r → ruling r K.records ≡ v
+  lodge_by : (v : Result (Unit {0}) LodgingRefusal) (r : Record) (line1 line2 : List ℕ) → read_of line1 line2 ≡ Ok r → ruling r K.records ≡ v
       → Kept (lent (when_lodged v (bytes_of (lodged r K.records)) m.buffer) (when_lodged v (row_of (lodged r K.records)) m.row)) (noted h (Lodge line1 line2) (lodging_number v))
-  lodge_by lodging.Lodged r line1 line2 g e =
+  lodge_by (Ok tt) r line1 line2 g e =
       let l = accepted_are_legal line1 line2 r g in
       record {
         records = lodged r K.records;
@@ -77,17 +76,17 @@ module _ (m : Lent) (h : List Call) (K : Kept m h) where
         present = λ n.
             lookup_lodged r K.records n
             ∙ ap (cond (eqb r.number n) (some r)) (K.present n)
-            ∙ sym (stood n h (Lodge line1 line2) ∙ ap (λ (t : Reading). lodges_over n t (standing n h none)) g);
+            ∙ sym (stood n h (Lodge line1 line2) ∙ ap (λ (t : Result Record Refusal). lodges_over n t (standing n h none)) g);
       }
-  lodge_by (lodging.Unread why) r line1 line2 g e = unread why (Lodge line1 line2)
-  lodge_by lodging.NoRoster r line1 line2 g e = refused
-  lodge_by lodging.Older r line1 line2 g e = refused
-  lodge_by lodging.Full r line1 line2 g e = refused
+  lodge_by (Err (lodging.Unread why)) r line1 line2 g e = unread why (Lodge line1 line2)
+  lodge_by (Err lodging.NoRoster) r line1 line2 g e = refused
+  lodge_by (Err lodging.Older) r line1 line2 g e = refused
+  lodge_by (Err lodging.Full) r line1 line2 g e = refused
 
-  lodge_read : (g : Reading) (line1 line2 : List ℕ) → read_of line1 line2 ≡ g
+  lodge_read : (g : Result Record Refusal) (line1 line2 : List ℕ) → read_of line1 line2 ≡ g
       → Kept (lent (lodged_by bytes_of g (some K.records) m.buffer) (lodged_by row_of g (some K.records) m.row)) (noted h (Lodge line1 line2) (lodging_number (answered g (some K.records))))
-  lodge_read (reading.Refused why) line1 line2 e = unread why (Lodge line1 line2)
-  lodge_read (reading.Record r) line1 line2 e = lodge_by (ruling r K.records) r line1 line2 e refl
+  lodge_read (Err why) line1 line2 e = unread why (Lodge line1 line2)
+  lodge_read (Ok r) line1 line2 e = lodge_by (ruling r K.records) r line1 line2 e refl
 
   withdraw_by : (o : Option Record) (n : ℕ)
       → Kept (lent (when_withdrawn (found_by o) (bytes_of (withdrawn n K.records)) m.buffer) (when_withdrawn (found_by o) (row_of (withdrawn n K.records)) m.row)) (noted h (Withdraw n) (withdrawal_number (found_by o)))

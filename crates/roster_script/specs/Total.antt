@@ -1,11 +1,10 @@
 -- Document 02, wish 2: "Total kept, from an empty roster over any calls: the numbers lodged and not since withdrawn are exactly
 -- those present, each with the pair last accepted for it." Wish 8: of the row beside the roster too, and over calls that fill it.
 -- Definitions only; the theorems are `total` and `total_filled` of proofs/Totals.
-use Rattle.std.specs.Prelude.{ℕ, ◌≡◌, cond, ◌↔◌, List, [], ◌∷◌, ◌++◌, eqb, length, replicate}
+use Rattle.std.specs.Prelude.{ℕ, ◌≡◌, cond, ◌↔◌, List, [], ◌∷◌, ◌++◌, eqb, length, replicate, Ok}
 use Rattle.std.proofs.Math.Option.{some}
 use Rattle.tle.specs.Read.{read_of}
 use Rattle.tle.specs.declared.Record.{Record}
-use Rattle.tle.specs.declared.Reading.TheVariants as reading
 use Rattle.roster.specs.Records.{lookup}
 use Rattle.roster.specs.Roster.{roster_of}
 use Rattle.roster.specs.Row.{row_of}
@@ -64,7 +63,7 @@ accepted (c ∷ cs) (a ∷ numbers) = cond (eqb a 0) (c ∷ accepted cs numbers)
 
 -- a call lodges the pair r, or withdraws the number n
 abbrev pub Lodges : Record → Call → Type 0
-Lodges r (Lodge line1 line2) = read_of line1 line2 ≡ reading.Record r
+Lodges r (Lodge line1 line2) = read_of line1 line2 ≡ Ok r
 Lodges r (Withdraw n) = ⊥
 Lodges r Fill = ⊥
 

@@ -5,7 +5,7 @@ ghost use Rattle.std.specs.Prelude.{◌≡◌, ◌++◌, ◌+◌, ◌/◌, ◌�
 ghost use Rattle.roster_script.specs.Total.{lent, answer_to, after, answers_to, after_all};
 ghost use Rattle.roster_script.specs.Script.{call_of, taken, script, needed, ran_number, Post};
 
-use roster_calls::{fill_row, lodge, withdraw};
+use roster_calls::{fill_row, filling_number, lodge, lodging_number, withdraw, withdrawal_number};
 
 // What became of a script: run; or not begun, for want of text or of room for the answers (17).
 #[derive(Clone, Copy)]
@@ -55,8 +55,7 @@ fn fits(calls: &[usize], room: usize) -> bool
     ensures { result ≡ leb (needed calls.now) room }
 {
     let mut left = room;
-    let mut j = 0;
-    while j < calls.len() / 3 {
+    for j in 0..calls.len() / 3 {
         let i = 3 * j;
         let kind = calls[i];
         let a = calls[i + 1];
@@ -65,7 +64,6 @@ fn fits(calls: &[usize], room: usize) -> bool
             return false;
         }
         left -= lines_taken(left, kind, a, b);
-        j += 1;
     }
     true
 }
@@ -84,14 +82,14 @@ fn step(
     ensures { (result ≡ answer_to (lent roster.old row.old) (call_of kind a b (drop at text.now))) × (lent roster.new row.new ≡ after (lent roster.old row.old) (call_of kind a b (drop at text.now))) }
 {
     if kind == 1 {
-        return withdraw(roster, row, a as u64).number();
+        return withdrawal_number(withdraw(roster, row, a as u64));
     }
     if kind != 0 {
-        return fill_row(roster, row).number();
+        return filling_number(fill_row(roster, row));
     }
     let half = at + a;
     let end = half + b;
-    lodge(roster, row, &text[at..half], &text[half..end]).number()
+    lodging_number(lodge(roster, row, &text[at..half], &text[half..end]))
 }
 
 // Every call of a script, one after the other.
@@ -100,15 +98,13 @@ fn run_all(roster: &mut [u8], row: &mut [u64], calls: &[usize], text: &[u8], ans
     ensures { (lent roster.new row.new ≡ after_all (lent roster.old row.old) (script calls.now text.now)) × (answers.new ≡ answers_to (lent roster.old row.old) (script calls.now text.now) ++ drop (length (script calls.now text.now)) answers.old) }
 {
     let mut at = 0;
-    let mut j = 0;
-    while j < calls.len() / 3 {
+    for j in 0..calls.len() / 3 {
         let i = 3 * j;
         let kind = calls[i];
         let a = calls[i + 1];
         let b = calls[i + 2];
         answers[j] = step(roster, row, kind, a, b, text, at);
         at += lines_taken(text.len(), kind, a, b);
-        j += 1;
     }
 }
 

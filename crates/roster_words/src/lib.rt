@@ -8,10 +8,10 @@ ghost use Rattle.roster_words.specs.Command.{command_of};
 ghost use Rattle.roster_words.specs.Answers.{number_text, about_text, lodging_text, named_text, withdrawal_text, total_text};
 
 use reading_faults::put_fault;
-use roster_calls::{Lodging, Withdrawal};
+use roster_calls::{LodgingRefusal, WithdrawalRefusal};
 use roster_listing::read;
 use text::{put_byte, put_bytes, put_decimal};
-use tle::Reading;
+use tle::{Record, Refusal};
 
 #[derive(Clone, Copy)]
 pub enum Command {
@@ -36,12 +36,12 @@ pub fn command_of(word: &[u8]) -> Command
     Command::Unknown
 }
 
-fn put_number(out: &mut [u8], at: usize, reading: Reading) -> usize
+fn put_number(out: &mut [u8], at: usize, reading: Result<Record, Refusal>) -> usize
     ensures { Put out.old at (number_text reading) out.new result }
 {
     match reading {
-        Reading::Record(r) => put_decimal(out, at, r.number),
-        Reading::Refused(_) => put_bytes(out, at, b""),
+        Ok(r) => put_decimal(out, at, r.number),
+        Err(_) => put_bytes(out, at, b""),
     }
 }
 
@@ -63,29 +63,37 @@ fn put_about(
 }
 
 // What lodging two lines came to.
-pub fn put_lodging(out: &mut [u8], at: usize, answer: Lodging, line1: &[u8], line2: &[u8]) -> usize
+pub fn put_lodging(
+    out: &mut [u8],
+    at: usize,
+    answer: Result<(), LodgingRefusal>,
+    line1: &[u8],
+    line2: &[u8],
+) -> usize
     ensures { Put out.old at (lodging_text answer line1.now line2.now) out.new result }
 {
     match answer {
-        Lodging::Lodged => put_about(out, at, b"lodged satellite ", line1, line2, b".\n"),
-        Lodging::Unread(why) => put_fault(out, at, why, line1, line2),
-        Lodging::NoRoster => put_bytes(out, at, b"refusal 22: the file is no roster.\n"),
-        Lodging::Older => put_about(
-            out,
-            at,
-            b"refusal 20: the roster has a pair of satellite ",
-            line1,
-            line2,
-            b" whose epoch is later.\n",
-        ),
-        Lodging::Full => put_about(
-            out,
-            at,
-            b"refusal 19: all 64 places hold other satellites than ",
-            line1,
-            line2,
-            b".\n",
-        ),
+        Ok(()) => put_about(out, at, b"lodged satellite ", line1, line2, b".\n"),
+        Err(refusal) => match refusal {
+            LodgingRefusal::Unread(why) => put_fault(out, at, why, line1, line2),
+            LodgingRefusal::NoRoster => put_bytes(out, at, b"refusal 22: the file is no roster.\n"),
+            LodgingRefusal::Older => put_about(
+                out,
+                at,
+                b"refusal 20: the roster has a pair of satellite ",
+                line1,
+                line2,
+                b" whose epoch is later.\n",
+            ),
+            LodgingRefusal::Full => put_about(
+                out,
+                at,
+                b"refusal 19: all 64 places hold other satellites than ",
+                line1,
+                line2,
+                b".\n",
+            ),
+        },
     }
 }
 
@@ -98,18 +106,29 @@ fn put_named(out: &mut [u8], at: usize, front: &[u8], number: u64) -> usize
 }
 
 // What withdrawing a number came to.
-pub fn put_withdrawal(out: &mut [u8], at: usize, answer: Withdrawal, number: u64) -> usize
+pub fn put_withdrawal(
+    out: &mut [u8],
+    at: usize,
+    answer: Result<(), WithdrawalRefusal>,
+    number: u64,
+) -> usize
     ensures { Put out.old at (withdrawal_text answer number) out.new result }
 {
     match answer {
-        Withdrawal::Withdrawn => put_named(out, at, b"withdrew satellite ", number),
-        Withdrawal::NoRoster => put_bytes(out, at, b"refusal 22: the file is no roster.\n"),
-        Withdrawal::Absent => put_named(
-            out,
-            at,
-            b"refusal 21: the roster has no pair of satellite ",
-            number,
-        ),
+        Ok(()) => put_named(out, at, b"withdrew satellite ", number),
+        Err(why) => match why {
+            WithdrawalRefusal::NoRoster => put_bytes(
+                out,
+                at,
+                b"refusal 22: the file is no roster.\n",
+            ),
+            WithdrawalRefusal::Absent => put_named(
+                out,
+                at,
+                b"refusal 21: the roster has no pair of satellite ",
+                number,
+            ),
+        },
     }
 }
 

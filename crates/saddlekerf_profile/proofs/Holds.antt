@@ -12,8 +12,9 @@ use Rattle.instant.specs.declared.Instant.{Instant}
 use Rattle.satellite.specs.declared.NearEarth.{NearEarth}
 use Rattle.satellite.specs.declared.Method.TheVariants as methods
 use Rattle.requests.specs.Lists.{holding}
-use Rattle.storage.specs.declared.NearLoading.{NearLoading}
-use Rattle.storage.specs.declared.NearLoading.TheVariants.{Loaded, DeepSpace, RoomTooShort}
+use Rattle.std.specs.Prelude.{Err, Ok, Result}
+use Rattle.storage.specs.declared.NearRefusal.{NearRefusal}
+use Rattle.storage.specs.declared.NearRefusal.TheVariants as unloaded
 use Rattle.storage.specs.Storage.{satellite_of, model_at, method_at, near_earth_at, deep_space_at, place_at, epoch_at}
 use Rattle.storage.specs.Near.{near_short, near_kind, near_loading_of}
 use Rattle.profile.specs.Request.{beyond}
@@ -30,13 +31,13 @@ pub record Near (ns : List Float) (ms : List ℕ) (n : NearEarth) : Type 0 where
   pub kind : near_kind ms ≡ true
   pub made : n ≡ near_earth_at ns (not (eqb (get_or ms 2 0) 0))
 
-abbrev near_here : NearLoading → List Float → List ℕ → Type 0
-near_here (Loaded n) ns ms = Near ns ms n
-near_here DeepSpace ns ms = (near_short (length ns) (length ms) ≡ false) × (near_kind ms ≡ false)
-near_here RoomTooShort ns ms = near_short (length ns) (length ms) ≡ true
+abbrev near_here : Result NearEarth NearRefusal → List Float → List ℕ → Type 0
+near_here (Ok n) ns ms = Near ns ms n
+near_here (Err unloaded.DeepSpace) ns ms = (near_short (length ns) (length ms) ≡ false) × (near_kind ms ≡ false)
+near_here (Err unloaded.RoomTooShort) ns ms = near_short (length ns) (length ms) ≡ true
 
 here_by : (ns : List Float) (ms : List ℕ) (b k : Bool) → near_short (length ns) (length ms) ≡ b → near_kind ms ≡ k
-    → near_here (cond b RoomTooShort (cond k (Loaded (near_earth_at ns (not (eqb (get_or ms 2 0) 0)))) DeepSpace)) ns ms
+    → near_here (cond b (Err unloaded.RoomTooShort) (cond k (Ok (near_earth_at ns (not (eqb (get_or ms 2 0) 0)))) (Err unloaded.DeepSpace))) ns ms
 here_by ns ms true k hb hk = hb
 here_by ns ms false true hb hk = record { long = hb; kind = hk; made = refl }
 here_by ns ms false false hb hk = (hb, hk)
@@ -45,7 +46,7 @@ here : (ns : List Float) (ms : List ℕ) → near_here (near_loading_of ns ms) n
 unfolding near_loading_of
 here ns ms = here_by ns ms (near_short (length ns) (length ms)) (near_kind ms) refl refl
 
-pub loaded_here : (ns : List Float) (ms : List ℕ) (x : NearLoading) → x ≡ near_loading_of ns ms → near_here x ns ms
+pub loaded_here : (ns : List Float) (ms : List ℕ) (x : Result NearEarth NearRefusal) → x ≡ near_loading_of ns ms → near_here x ns ms
 loaded_here ns ms x e = subst (λ z. near_here z ns ms) (sym e) (here ns ms)
 
 -- ── the satellite there, by the full program's layout ──

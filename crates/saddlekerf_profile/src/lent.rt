@@ -11,12 +11,12 @@ ghost use Rattle.saddlekerf_profile.specs.Requests as R;
 
 use answers::{answer, refusal_answer};
 use instant::Microseconds;
-use profile::opener::{Opening, open_read};
+use profile::opener::open_read;
 use profile::rows::{Listed, request, request_list};
 use satellite::NearEarth;
-use storage::{NearLoading, load_near};
+use storage::{NearRefusal, load_near};
 use storing::store_near;
-use tle::{Form, Reading, Record, read_form, read_meaning};
+use tle::{Record, read_form, read_meaning};
 
 fn opening_answer(why: profile::opener::Refusal) -> u64
     ensures { result ≡ answer (P.number why) 0 0 0 }
@@ -31,8 +31,8 @@ fn open_record(r: Record, numbers: &mut [f64], marks: &mut [u32]) -> u64
     ensures marks_after { marks.new ≡ O.opened_marks (P.open_read_of r) numbers.old marks.old }
 {
     match open_read(r) {
-        Opening::Opened(near, epoch) => answer(store_near(near, epoch, numbers, marks), 0, 0, 0),
-        Opening::Refused(why) => opening_answer(why),
+        Ok((near, epoch)) => answer(store_near(near, epoch, numbers, marks), 0, 0, 0),
+        Err(why) => opening_answer(why),
     }
 }
 
@@ -42,13 +42,13 @@ pub fn open_held(line1: &[u8], line2: &[u8], numbers: &mut [f64], marks: &mut [u
     ensures numbers_after { numbers.new ≡ O.open_numbers (read_of line1.now line2.now) numbers.old marks.old }
     ensures marks_after { marks.new ≡ O.open_marks (read_of line1.now line2.now) numbers.old marks.old }
 {
-    let form = read_form(line1, line2);
-    let Form::Fields(fields) = form else {
-        return refusal_answer(form.refusal());
+    let fields = match read_form(line1, line2) {
+        Ok(fields) => fields,
+        Err(why) => return refusal_answer(why),
     };
     match read_meaning(fields) {
-        Reading::Record(r) => open_record(r, numbers, marks),
-        Reading::Refused(why) => refusal_answer(why),
+        Ok(r) => open_record(r, numbers, marks),
+        Err(why) => refusal_answer(why),
     }
 }
 
@@ -107,9 +107,11 @@ pub fn request_held(numbers: &mut [f64], marks: &mut [u32], time: i64, state: &m
     ensures { R.RequestPost numbers.old marks.old time state.old result numbers.new marks.new state.new }
 {
     match load_near(numbers, marks) {
-        NearLoading::Loaded(near) => ask(near, numbers, marks, Microseconds(time), state),
-        NearLoading::DeepSpace => answer(32, 0, 0, 0),
-        NearLoading::RoomTooShort => answer(17, 0, 0, 0),
+        Ok(near) => ask(near, numbers, marks, Microseconds(time), state),
+        Err(why) => match why {
+            NearRefusal::DeepSpace => answer(32, 0, 0, 0),
+            NearRefusal::RoomTooShort => answer(17, 0, 0, 0),
+        },
     }
 }
 
@@ -150,11 +152,13 @@ pub fn request_list_held(
     ensures { R.ListPost numbers.old marks.old times.now refusals.old states.old rounds.old result numbers.new marks.new refusals.new states.new rounds.new }
 {
     match load_near(numbers, marks) {
-        NearLoading::Loaded(near) => {
+        Ok(near) => {
             let l = request_list(near, times, refusals, states, rounds);
             put_list(l, numbers, marks)
         }
-        NearLoading::DeepSpace => answer(32, 0, 0, 0),
-        NearLoading::RoomTooShort => short_list(times.len()),
+        Err(why) => match why {
+            NearRefusal::DeepSpace => answer(32, 0, 0, 0),
+            NearRefusal::RoomTooShort => short_list(times.len()),
+        },
     }
 }

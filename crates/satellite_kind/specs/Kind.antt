@@ -1,5 +1,5 @@
 -- Document 01, "Opening": what opening a record comes to in a word, and how deep a perigee lies.
-use Rattle.std.specs.Prelude.{Float}
+use Rattle.std.specs.Prelude.{Float, Err, Ok, Result}
 use Rattle.elementary.specs.Notation.{dec, ◌⊖◌, ◌⊗◌}
 use Rattle.wgs72.specs.Getgravconst.{radiusearthkm}
 use Rattle.near_earth.specs.Initl.{initl}
@@ -11,8 +11,7 @@ use Rattle.satellite.specs.declared.Resonance.{Resonance}
 use Rattle.satellite.specs.declared.Resonance.TheVariants as resonance
 use Rattle.opening.specs.declared.opening.Refusal.{Refusal}
 use Rattle.opening.specs.declared.opening.Refusal.TheVariants as refusal
-use Rattle.opening.specs.declared.opening.Opening.{Opening}
-use Rattle.opening.specs.declared.opening.Opening.TheVariants as opening
+use Rattle.opening.specs.declared.opening.Satellite.{Satellite}
 use Rattle.satellite_kind.specs.declared.Kind.{Kind}
 use Rattle.satellite_kind.specs.declared.Kind.TheVariants.{NearEarth, DeepSpace, OneDay, HalfDay, Perigee, NotFinite, NoRecord}
 
@@ -30,9 +29,9 @@ refusal_kind refusal.Record = NoRecord
 refusal_kind refusal.Perigee = Perigee
 refusal_kind refusal.NotFinite = NotFinite
 
-abbrev pub opening_kind : Opening → Kind
-opening_kind (opening.Opened s) = method_kind s.model.method
-opening_kind (opening.Refused why) = refusal_kind why
+abbrev pub opening_kind : Result Satellite Refusal → Kind
+opening_kind (Ok s) = method_kind s.model.method
+opening_kind (Err why) = refusal_kind why
 
 -- km from the ground, one Earth radius from the centre, down to the perigee at the epoch
 unfoldable pub perigee_depth : Record → Float

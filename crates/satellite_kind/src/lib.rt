@@ -9,7 +9,7 @@ ghost use Rattle.satellite_kind.specs.Kind as K;
 use instant::Radians;
 use near_earth::initl::initl;
 use opening::elements::elements_of;
-use opening::opening::{Opening, Refusal, open};
+use opening::opening::{Refusal, Satellite, open};
 use satellite::{Method, Resonance};
 use tle::Record;
 use wgs72::RADIUSEARTHKM;
@@ -59,16 +59,16 @@ fn refusal_kind(why: Refusal) -> Kind
     }
 }
 
-fn opening_kind(opening: Opening) -> Kind
+fn opening_kind(opening: Result<Satellite, Refusal>) -> Kind
     ensures { result ≡ K.opening_kind opening }
 {
     match opening {
-        Opening::Opened(s) => {
+        Ok(s) => {
             let model = s.model;
             let method = model.method;
             method_kind(method)
         }
-        Opening::Refused(why) => refusal_kind(why),
+        Err(why) => refusal_kind(why),
     }
 }
 

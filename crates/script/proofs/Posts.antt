@@ -9,15 +9,16 @@ use lib.IntN.{ℤ}
 use lib.Ieee.{Float}
 use Rattle.sgp4.specs.declared.Row.{Row}
 use Rattle.opening.specs.declared.opening.Satellite.{Satellite}
-use Rattle.opening.specs.declared.opening.PairOpening.{PairOpening}
-use Rattle.opening.specs.declared.opening.PairOpening.TheVariants as pair
+use Rattle.std.specs.Prelude.{Err, Ok, Result}
+use Rattle.opening.specs.declared.opening.PairRefusal.{PairRefusal}
+use Rattle.opening.specs.declared.opening.PairRefusal.TheVariants as pair
 use Rattle.opening.specs.Opening.{open_pair_of}
 use Rattle.opening.proofs.Made.{made_of}
 use Rattle.requests.specs.Lists.{refusals_of, states_of, rounds_of, over}
 use Rattle.sequences.specs.Demand3.{Request, One, Many, Windows, Outcome, outcome, row_times, run, sum, reported, ranged, row_alone, strides_alone, windows_alone, NoMore, epoch, Demand3}
 use Rattle.sequences.proofs.Demand3.{demand_3}
-use Rattle.script.specs.declared.Ran.{Ran}
-use Rattle.script.specs.declared.Ran.TheVariants.{Done, Short, Unread, Refused}
+use Rattle.script.specs.declared.ScriptRefusal.{ScriptRefusal}
+use Rattle.script.specs.declared.ScriptRefusal.TheVariants.{Short, Unopened}
 use Rattle.script_room.specs.Room.{suffices}
 use Rattle.script_steps.specs.Steps.{written, laid_all, script, rows_of, windows_of, firsts_of, lasts_of, strides_of, found_of, Left, Runs}
 use Rattle.script.specs.Script.{written_all, TwoKinds, joined, Demanded, ran_of, Post}
@@ -109,43 +110,40 @@ demanded s rs a b c f l d e a' b' c' f' l' d' e' p x =
 
 -- ── the answers ──
 
-abbrev NotDone : Ran → Type 0
-NotDone Done = ⊥
-NotDone Short = Unit {0}
-NotDone (Unread why) = Unit {0}
-NotDone (Refused why) = Unit {0}
+abbrev pub NotDone : Result (Unit {0}) ScriptRefusal → Type 0
+NotDone (Ok tt) = ⊥
+NotDone (Err why) = Unit {0}
 
-abbrev satellite_or : Satellite → PairOpening → Satellite
-satellite_or s (pair.Opened t) = t
-satellite_or s (pair.Unread why) = s
-satellite_or s (pair.Refused why) = s
+abbrev satellite_or : Satellite → Result Satellite PairRefusal → Satellite
+satellite_or s (Ok t) = t
+satellite_or s (Err why) = s
 
 module _ (line1 line2 ns : List ℕ) (ts : List ℤ) (ps : List Float) (qs : List ℕ) (a : List ℕ) (b : List Float) (c f l d e : List ℕ) where
   abbrev All : Bool
   All = suffices ns (length ts) (length a) (length b) (length c) (length d) (length ps) (length qs) (length e)
 
-  unrun_post : (r : Ran) → NotDone r → r ≡ ran_of All (open_pair_of line1 line2) → Post line1 line2 ns ts ps qs a b c f l d e r a b c f l d e
+  unrun_post : (r : Result (Unit {0}) ScriptRefusal) → NotDone r → r ≡ ran_of All (open_pair_of line1 line2) → Post line1 line2 ns ts ps qs a b c f l d e r a b c f l d e
   unrun_post r n h = record {
     answer = h;
     unrun = λ u. (refl, refl, refl, refl, refl, refl, refl);
     ran = λ s o u. absurd (subst NotDone u n);
   }
 
-  short_is : (o : PairOpening) → Short ≡ ran_of false o
+  short_is : (o : Result Satellite PairRefusal) → Err Short ≡ ran_of false o
   unfolding ran_of
   short_is o = refl
 
-  done_is : (s : Satellite) → Done ≡ ran_of true (pair.Opened s)
+  done_is : (s : Satellite) → Ok tt ≡ ran_of true (Ok s)
   unfolding ran_of
   done_is s = refl
 
-  pub post_short : All ≡ false → Post line1 line2 ns ts ps qs a b c f l d e Short a b c f l d e
-  post_short h = unrun_post Short tt (short_is (open_pair_of line1 line2) ∙ ap (λ u. ran_of u (open_pair_of line1 line2)) (sym h))
+  pub post_short : All ≡ false → Post line1 line2 ns ts ps qs a b c f l d e (Err Short) a b c f l d e
+  post_short h = unrun_post (Err Short) tt (short_is (open_pair_of line1 line2) ∙ ap (λ u. ran_of u (open_pair_of line1 line2)) (sym h))
 
-  answer_of_lem : (r : Ran) (o : PairOpening) → r ≡ ran_of true o → All ≡ true → open_pair_of line1 line2 ≡ o → r ≡ ran_of All (open_pair_of line1 line2)
+  answer_of_lem : (r : Result (Unit {0}) ScriptRefusal) (o : Result Satellite PairRefusal) → r ≡ ran_of true o → All ≡ true → open_pair_of line1 line2 ≡ o → r ≡ ran_of All (open_pair_of line1 line2)
   answer_of_lem r o h x k = h ∙ ap (ran_of true) (sym k) ∙ ap (λ u. ran_of u (open_pair_of line1 line2)) (sym x)
 
-  pub post_closed : (r : Ran) (o : PairOpening) → NotDone r → All ≡ true → open_pair_of line1 line2 ≡ o → r ≡ ran_of true o → Post line1 line2 ns ts ps qs a b c f l d e r a b c f l d e
+  pub post_closed : (r : Result (Unit {0}) ScriptRefusal) (o : Result Satellite PairRefusal) → NotDone r → All ≡ true → open_pair_of line1 line2 ≡ o → r ≡ ran_of true o → Post line1 line2 ns ts ps qs a b c f l d e r a b c f l d e
   post_closed r o n x k h = unrun_post r n (answer_of_lem r o h x k)
 
   -- what `run_requests` says of a script that has room
@@ -153,13 +151,13 @@ module _ (line1 line2 ns : List ℕ) (ts : List ℤ) (ps : List Float) (qs : Lis
       → Left s (script s ns 0 ts ps qs (length a) (length b) (length c) (length f) (length l)) a b c f l d e a' b' c' f' l' d' e'
   left_of_lem s r a' b' c' f' l' d' e' x p = p.ran (p.answer ∙ x)
 
-  pub post_done : (s : Satellite) (a' : List ℕ) (b' : List Float) (c' f' l' d' e' : List ℕ) → All ≡ true → open_pair_of line1 line2 ≡ pair.Opened s
-      → Left s (script s ns 0 ts ps qs (length a) (length b) (length c) (length f) (length l)) a b c f l d e a' b' c' f' l' d' e' → Post line1 line2 ns ts ps qs a b c f l d e Done a' b' c' f' l' d' e'
+  pub post_done : (s : Satellite) (a' : List ℕ) (b' : List Float) (c' f' l' d' e' : List ℕ) → All ≡ true → open_pair_of line1 line2 ≡ Ok s
+      → Left s (script s ns 0 ts ps qs (length a) (length b) (length c) (length f) (length l)) a b c f l d e a' b' c' f' l' d' e' → Post line1 line2 ns ts ps qs a b c f l d e (Ok tt) a' b' c' f' l' d' e'
   post_done s a' b' c' f' l' d' e' x k z =
       let m = made_of line1 line2 s k in
       let rs = script s ns 0 ts ps qs (length a) (length b) (length c) (length f) (length l) in
       record {
-        answer = answer_of_lem Done (pair.Opened s) (done_is s) x k;
+        answer = answer_of_lem (Ok tt) (Ok s) (done_is s) x k;
         unrun = λ h. absurd (h refl);
         ran = λ t o h.
             subst (λ u. Demanded u (script u ns 0 ts ps qs (length a) (length b) (length c) (length f) (length l)) a b c f l d e a' b' c' f' l' d' e') (ap (satellite_or s) (sym k ∙ o))

@@ -2,33 +2,39 @@
 #![tactic(auto)]
 
 ghost use Rattle.std.specs.Prelude.{◌≡◌};
+ghost use Rattle.script.specs.declared.ScriptRefusal.TheVariants.{Unopened};
 ghost use Rattle.script.specs.Script as S;
 
-use opening::opening::{PairOpening, open_pair};
+use opening::opening::{PairRefusal, open_pair};
 use script_room::suffices;
 use script_steps::run_requests;
 
-// What became of a script: run; not begun, for want of times or of room (17); or not begun, since the
-// lines are refused by reading (1 to 6) or by opening (7 and 8).
+// Why a script is not begun: want of times or of room (17), or lines that reading (1 to 6) or opening (7
+// and 8) refuses.
 #[derive(Clone, Copy)]
-pub enum Ran {
-    Done,
+pub enum ScriptRefusal {
     Short,
-    Unread(tle::Refusal),
-    Refused(opening::opening::Refusal),
+    Unopened(PairRefusal),
 }
 
-impl Ran {
-    // Document 01's number of the answer, 0 where the script was run.
-    pub fn number(self) -> u64
-        ensures { result ≡ S.ran_number self }
-    {
-        match self {
-            Ran::Done => 0,
-            Ran::Short => 17,
-            Ran::Unread(why) => why.number(),
-            Ran::Refused(why) => why.number(),
-        }
+impl From<PairRefusal> for ScriptRefusal {
+    ghost from_gives = { λ why refusal. refusal ≡ Unopened why };
+
+    fn from(why: PairRefusal) -> ScriptRefusal {
+        ScriptRefusal::Unopened(why)
+    }
+}
+
+// Document 01's number of the answer, 0 where the script was run.
+#[tactic(auto, unfolding(crate::specs::Script::ran_number))]
+pub fn ran_number(ran: Result<(), ScriptRefusal>) -> u64
+    ensures { result ≡ S.ran_number ran }
+{
+    match ran {
+        Ok(()) => 0,
+        Err(ScriptRefusal::Short) => 17,
+        Err(ScriptRefusal::Unopened(PairRefusal::Unread(why))) => why.number(),
+        Err(ScriptRefusal::Unopened(PairRefusal::Refused(why))) => why.number(),
     }
 }
 
@@ -48,7 +54,7 @@ pub fn run_script(
     lasts: &mut [u64],
     strides: &mut [u32],
     found: &mut [usize],
-) -> Ran
+) -> Result<(), ScriptRefusal>
     ensures { S.Post line1.now line2.now lengths.now times.now stations.now spans.now refusals.old states.old rounds.old firsts.old lasts.old strides.old found.old result refusals.new states.new rounds.new firsts.new lasts.new strides.new found.new }
 {
     if !suffices(
@@ -62,17 +68,11 @@ pub fn run_script(
         spans.len(),
         found.len(),
     ) {
-        return Ran::Short;
+        return Err(ScriptRefusal::Short);
     }
-    match open_pair(line1, line2) {
-        PairOpening::Opened(s) => {
-            run_requests(
-                s, lengths, times, stations, spans, refusals, states, rounds, firsts, lasts,
-                strides, found,
-            );
-            Ran::Done
-        }
-        PairOpening::Unread(why) => Ran::Unread(why),
-        PairOpening::Refused(why) => Ran::Refused(why),
-    }
+    let s = open_pair(line1, line2)?;
+    run_requests(
+        s, lengths, times, stations, spans, refusals, states, rounds, firsts, lasts, strides, found,
+    );
+    Ok(())
 }

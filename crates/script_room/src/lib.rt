@@ -28,29 +28,17 @@ pub fn added(refusal: u8, n: usize) -> usize
     0
 }
 
-// What is left of `room` after n, or nothing.
-fn less(room: usize, n: usize) -> usize
-    ensures { result ≡ room - n }
-{
-    if room < n {
-        return 0;
-    }
-    room - n
-}
-
 // Whether all requests together take at most `room` times.
 fn fits(lengths: &[usize], room: usize) -> bool
     ensures { result ≡ leb (R.needed lengths.now) room }
 {
     let mut left = room;
-    let mut i = 0;
-    while i < lengths.len() {
-        let n = taken(lengths[i]);
+    for &length in lengths {
+        let n = taken(length);
         if left < n {
             return false;
         }
         left -= n;
-        i += 1;
     }
     true
 }
@@ -60,14 +48,11 @@ fn roomy(lengths: &[usize], room: usize) -> bool
     ensures { result ≡ R.roomy lengths.now room }
 {
     let mut left = room;
-    let mut i = 0;
-    while i < lengths.len() {
-        let n = lengths[i];
+    for &n in lengths {
         if (n == 0) & (left == 0) {
             return false;
         }
-        left = less(left, taken(n));
-        i += 1;
+        left = left.saturating_sub(taken(n));
     }
     true
 }

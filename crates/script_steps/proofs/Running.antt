@@ -548,9 +548,6 @@ running_done {s₀} {ns} {ts} {ps} {qs} {a₀} {b₀} {c₀} {f₀} {l₀} {d₀
 pub index_small : (j n : ℕ) → j < n → 8 * n ≤ 9223372036854775808 → j * 4 < 18446744073709551616
 index_small j n h k = omega arith
 
-pub next_small : (j n : ℕ) → j < n → 8 * n ≤ 9223372036854775808 → j + 1 < 18446744073709551616
-next_small j n h k = omega arith
-
 pub rows_small : (rows at k g n : ℕ) → rows ≤ at → k ≤ g → at + g ≤ n → n ≤ 9223372036854775808 → rows + k < 18446744073709551616
 rows_small rows at k g n h l e w = omega arith
 
@@ -562,6 +559,3 @@ windows_small seen w n m h k e x = omega arith
 
 pub index_eight : (j n : ℕ) → j < n → 8 * n ≤ 9223372036854775808 → j * 8 < 18446744073709551616
 index_eight j n h k = omega arith
-
-pub nearer : (j n : ℕ) → j < n → n - (j + 1) < n - j
-nearer j n h = omega arith

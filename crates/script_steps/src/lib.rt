@@ -162,16 +162,13 @@ fn run_all(
     let mut at = 0;
     let mut rows = 0;
     let mut seen = 0;
-    let mut j = 0;
-    while j < lengths.len() {
-        let n = lengths[j];
-        let m = taken(n);
-        let end = at + m;
+    for (j, n) in lengths.iter().enumerate() {
+        let end = at + taken(*n);
         let a = step(s, &times[at..end], rows, refusals, states, rounds);
         let b = look(
             a.satellite,
             a.strides,
-            n,
+            *n,
             j,
             stations,
             spans,
@@ -185,7 +182,6 @@ fn run_all(
         rows += a.rows;
         seen += b.windows;
         at = end;
-        j += 1;
     }
 }
 

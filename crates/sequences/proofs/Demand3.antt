@@ -21,10 +21,9 @@ use Rattle.resonance.proofs.Iterates.{position, position_zero, serves, advanced_
 use Rattle.sgp4.specs.Sgp4.{no_integrator, integrator_by, integrator_of}
 use Rattle.sgp4.specs.Kept.{row_from}
 use Rattle.tle.specs.declared.Record.{Record}
-use Rattle.tle.specs.declared.Reading.TheVariants as reading
+use Rattle.std.specs.Prelude.{Ok}
 use Rattle.tle.specs.Read.{read_of}
 use Rattle.opening.specs.declared.opening.Satellite.{Satellite}
-use Rattle.opening.specs.declared.opening.Opening.TheVariants as opening
 use Rattle.opening.specs.Opening.{epoch_place, newly, open_of}
 use Rattle.opening.proofs.Made.{made}
 use Rattle.requests.specs.Request.{reached, choose, inside, outside, asked, answered}
@@ -283,10 +282,10 @@ newly_place : (k : Model) → (newly k).place ≡ epoch_of (integrator_of k)
 unfolding newly integrator_of
 newly_place k = epoch_by k.method
 
-pub opened_place : (r : Record) (s : Satellite) → open_of r ≡ opening.Opened s → s.place ≡ epoch_of (integrator_of s.model)
+pub opened_place : (r : Record) (s : Satellite) → open_of r ≡ Ok s → s.place ≡ epoch_of (integrator_of s.model)
 opened_place r s h = ap (λ (z : Satellite). z.place) (made r s h).newly_opened ∙ newly_place s.model
 
 -- two accepted lines, the satellite that they open to, and any sequence of requests
-pub demand_3 : (line1 line2 : List ℕ) (r : Record) (s : Satellite) → read_of line1 line2 ≡ reading.Record r → open_of r ≡ opening.Opened s
+pub demand_3 : (line1 line2 : List ℕ) (r : Record) (s : Satellite) → read_of line1 line2 ≡ Ok r → open_of r ≡ Ok s
     → (rs : List Request) → Demand3 s rs
 demand_3 line1 line2 r s reads opens rs = from_epoch s (opened_place r s opens) rs

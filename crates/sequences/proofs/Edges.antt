@@ -9,8 +9,6 @@ use Rattle.satellite.specs.declared.Integrator.{Integrator}
 use Rattle.satellite.specs.declared.Model.{Model}
 use Rattle.state.specs.declared.answer.Refusal.{Refusal}
 use Rattle.state.specs.declared.answer.Refusal.TheVariants.{MeanMotion, MeanElements, Eccentricity, SemiLatusRectum, Decayed, NotFinite}
-use Rattle.state.specs.declared.answer.Answer.{Answer}
-use Rattle.state.specs.declared.answer.Answer.TheVariants.{Given, Refused}
 use Rattle.state.specs.Answer.{number}
 use Rattle.resonance.specs.declared.place.Place.{Place}
 use Rattle.resonance.specs.Place.{epoch_of}
@@ -20,7 +18,8 @@ use Rattle.sgp4.specs.Row.{refused_row, row_of}
 use Rattle.sgp4.specs.Kept.{row_from}
 use Rattle.tle.specs.declared.Record.{Record}
 use Rattle.opening.specs.declared.opening.Satellite.{Satellite}
-use Rattle.opening.specs.declared.opening.Opening.TheVariants as opening
+use Rattle.std.specs.Prelude.{Err, Ok, Result}
+use Rattle.state.specs.declared.answer.State.{State}
 use Rattle.opening.specs.Opening.{open_of}
 use Rattle.requests.specs.Request.{choose, inside, outside, asked}
 use Rattle.sequences.specs.Demand3.{One, counted, none, epoch}
@@ -38,10 +37,10 @@ not_nine SemiLatusRectum = refl
 not_nine Decayed = refl
 not_nine NotFinite = refl
 
-row_nine : (a : Answer) → eqb (row_of a).refusal 9 ≡ false
+row_nine : (a : Result (State × ℕ) Refusal) → eqb (row_of a).refusal 9 ≡ false
 unfolding row_of refused_row
-row_nine (Given s k) = refl
-row_nine (Refused why) = not_nine why
+row_nine (Ok (s, k)) = refl
+row_nine (Err why) = not_nine why
 
 nine_by : (k : Model) (p : Place) (t : ℤ) (b : Bool) → eqb (choose b (inside k p t) (outside p)).row.refusal 9 ≡ not b
 unfolding row_from refused_row
@@ -73,5 +72,5 @@ unfolding Counted Each
 each s n [] c = tt
 each s n (e ∷ es) c = (nines s e.times ∙ c.0, (from_epoch s n (map One e.times)).counts ∙ c.1, each s n es c.2)
 
-pub edges_hold : (r : Record) (s : Satellite) → open_of r ≡ opening.Opened s → resonant (integrator_of s.model).resonance ≡ true → Each s edges
+pub edges_hold : (r : Record) (s : Satellite) → open_of r ≡ Ok s → resonant (integrator_of s.model).resonance ≡ true → Each s edges
 edges_hold r s o h = each s (opened_place r s o) edges (counts (epoch s) (integrator_of s.model) h)

@@ -6,8 +6,9 @@ use lib.IntN.{ℤ}
 use Rattle.instant.specs.Quantity.{minutes_of}
 use Rattle.satellite.specs.declared.Model.{Model}
 use Rattle.state.specs.declared.answer.Refusal.TheVariants as refusals
-use Rattle.state.specs.declared.answer.Answer.{Answer}
-use Rattle.state.specs.declared.answer.Answer.TheVariants.{Given, Refused}
+use Rattle.std.specs.Prelude.{Err, Ok, Result, ℕ}
+use Rattle.state.specs.declared.answer.State.{State}
+use Rattle.state.specs.declared.answer.Refusal.{Refusal}
 use Rattle.state.specs.Answer.{number}
 use Rattle.resonance.specs.declared.place.Place.{Place}
 use Rattle.resonance.specs.Time.{in_range}
@@ -15,15 +16,15 @@ use Rattle.sgp4.specs.Row.{refused_row, row_of}
 use Rattle.sgp4.specs.Kept.{state_from, row_from}
 use Rattle.requests.specs.Request.{reached, choose, inside, outside, asked}
 
-other : (a : Answer) → eqb (row_of a).refusal 9 ≡ false
+other : (a : Result (State × ℕ) Refusal) → eqb (row_of a).refusal 9 ≡ false
 unfolding row_of refused_row number
-other (Given s k) = refl
-other (Refused refusals.MeanMotion) = refl
-other (Refused refusals.MeanElements) = refl
-other (Refused refusals.Eccentricity) = refl
-other (Refused refusals.SemiLatusRectum) = refl
-other (Refused refusals.Decayed) = refl
-other (Refused refusals.NotFinite) = refl
+other (Ok (s, k)) = refl
+other (Err refusals.MeanMotion) = refl
+other (Err refusals.MeanElements) = refl
+other (Err refusals.Eccentricity) = refl
+other (Err refusals.SemiLatusRectum) = refl
+other (Err refusals.Decayed) = refl
+other (Err refusals.NotFinite) = refl
 
 by_range : (b : Bool) (k : Model) (p : Place) (t : ℤ) (P : Bool → Place → Type 0) → P true p → P false (choose b (inside k p t) (outside p)).place
     → P (eqb (choose b (inside k p t) (outside p)).row.refusal 9) (choose b (inside k p t) (outside p)).place

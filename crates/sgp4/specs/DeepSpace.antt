@@ -1,6 +1,6 @@
 -- 002's sgp4 (lines 3322-3606) for a deep-space satellite: what stands under method 'd', and the steps of crate `state` around it. Definitions only.
 -- 002 goes on after an error; document 01 lets the first refusal met count.
-use Rattle.std.specs.Prelude.{Bool, false, cond, ◌||◌, Float}
+use Rattle.std.specs.Prelude.{Bool, false, cond, ◌||◌, Float, Err, Result, ℕ}
 use Rattle.std.specs.Float.Ieee.{neg, lt}
 use Rattle.elementary.specs.Notation.{◌⊕◌, ◌⊖◌, ◌⊗◌, dec, pi}
 use Rattle.elementary.specs.Trig.{sin_of, cos_of}
@@ -15,8 +15,8 @@ use Rattle.state.specs.declared.parts.Angles.{Angles}
 use Rattle.state.specs.declared.parts.Mean.{Mean}
 use Rattle.state.specs.declared.parts.Perturbed.{Perturbed}
 use Rattle.state.specs.declared.answer.Refusal.TheVariants.{MeanMotion, MeanElements, Eccentricity}
-use Rattle.state.specs.declared.answer.Answer.{Answer}
-use Rattle.state.specs.declared.answer.Answer.TheVariants.{Refused}
+use Rattle.state.specs.declared.answer.State.{State}
+use Rattle.state.specs.declared.answer.Refusal.{Refusal}
 use Rattle.state.specs.Secular.{secular, no_motion, mean, outside, mended, angles}
 use Rattle.state.specs.Sgp4.{periodics}
 use Rattle.periodics.specs.declared.dpper.Perturbed as dpper
@@ -74,26 +74,26 @@ anew sinip cosip =
     }
 
 -- refusal 12, then from the long-period terms on
-unfoldable pub perturbed : dpper.Perturbed → Float → Answer
+unfoldable pub perturbed : dpper.Perturbed → Float → Result (State × ℕ) Refusal
 perturbed x am =
     let sinip = sin_of x.inclp in
     let cosip = cos_of x.inclp in
-    cond (no_ellipse x.ep) (Refused Eccentricity) (periodics (inclined x sinip cosip) am (anew sinip cosip))
+    cond (no_ellipse x.ep) (Err Eccentricity) (periodics (inclined x sinip cosip) am (anew sinip cosip))
 
 -- refusal 11, then the lunar-solar periodics (3425-3482); of satrec.no
-unfoldable pub averaged : LunarSolar → Minutes → Float → Float → Secular → Mean → Answer
+unfoldable pub averaged : LunarSolar → Minutes → Float → Float → Secular → Mean → Result (State × ℕ) Refusal
 averaged ls t n inclm g m =
-    cond (outside m) (Refused MeanElements)
+    cond (outside m) (Err MeanElements)
     (perturbed (righted (dpper_of false ls t (averages m.em inclm (angles n g)))) m.am)
 
 -- refusal 10, then the mean elements (3415-3422) of what dspace gives
-unfoldable pub moved : LunarSolar → Minutes → Float → dspace.Mean → Secular → Answer
+unfoldable pub moved : LunarSolar → Minutes → Float → dspace.Mean → Secular → Result (State × ℕ) Refusal
 moved ls t n d g =
-    cond (no_motion d.nm) (Refused MeanMotion)
+    cond (no_motion d.nm) (Err MeanMotion)
     (averaged ls t n d.inclm g (mean d.nm d.em g))
 
 -- `p` is the position of the whole strides that t needs
-unfoldable pub deep_space : NearEarth → DeepSpace → Place → Minutes → Answer
+unfoldable pub deep_space : NearEarth → DeepSpace → Place → Minutes → Result (State × ℕ) Refusal
 deep_space s d p t =
     let g = secular s t in
     let e = dspace_of p d.integrator d.rates (handed s g) t in

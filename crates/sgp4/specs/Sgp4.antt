@@ -7,17 +7,19 @@ use Rattle.satellite.specs.declared.Integrator.{Integrator}
 use Rattle.satellite.specs.declared.Method.{Method}
 use Rattle.satellite.specs.declared.Method.TheVariants as methods
 use Rattle.satellite.specs.declared.Model.{Model}
-use Rattle.state.specs.declared.answer.Answer.{Answer}
+use Rattle.std.specs.Prelude.{Result, ℕ}
+use Rattle.state.specs.declared.answer.State.{State}
+use Rattle.state.specs.declared.answer.Refusal.{Refusal}
 use Rattle.state.specs.Sgp4.{sgp4}
 use Rattle.resonance.specs.declared.place.Place.{Place}
 use Rattle.sgp4.specs.DeepSpace.{deep_space}
 
-unfoldable pub state_by : NearEarth → Method → Place → Minutes → Answer
+unfoldable pub state_by : NearEarth → Method → Place → Minutes → Result (State × ℕ) Refusal
 state_by s methods.NearEarth p t = sgp4 s t
 state_by s (methods.DeepSpace d) p t = deep_space s d p t
 
 -- the state at t; `p` is the position of the whole strides that t needs
-unfoldable pub state_at : Model → Place → Minutes → Answer
+unfoldable pub state_at : Model → Place → Minutes → Result (State × ℕ) Refusal
 state_at k p t = state_by k.near k.method p t
 
 -- no resonance, and the zeros that sgp4init begins with

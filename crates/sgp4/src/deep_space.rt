@@ -41,9 +41,7 @@ fn updated(g: Secular, d: resonance::dspace::Mean) -> Secular
         mm: d.mm,
         argpm: d.argpm,
         nodem: d.nodem,
-        tempa: g.tempa,
-        tempe: g.tempe,
-        templ: g.templ,
+        ..g
     }
 }
 
@@ -67,11 +65,10 @@ fn righted(x: periodics::dpper::Perturbed) -> periodics::dpper::Perturbed
 {
     if x.inclp < 0.0 {
         return periodics::dpper::Perturbed {
-            ep: x.ep,
             inclp: -x.inclp,
             nodep: x.nodep + PI,
             argpp: x.argpp - PI,
-            mp: x.mp,
+            ..x
         };
     }
     x
@@ -118,7 +115,7 @@ fn perturbed(x: periodics::dpper::Perturbed, am: f64) -> Answer
     ensures { result ≡ D.perturbed x am }
 {
     if no_ellipse(x.ep) {
-        return Answer::Refused(Refusal::Eccentricity);
+        return Err(Refusal::Eccentricity);
     }
     let ip = sin_cos(x.inclp);
     periodics(inclined(x, ip.sin, ip.cos), am, anew(ip.sin, ip.cos))
@@ -128,7 +125,7 @@ fn averaged(ls: LunarSolar, t: Minutes, n: f64, inclm: f64, g: Secular, m: Mean)
     ensures { result ≡ D.averaged ls t n inclm g m }
 {
     if outside(m) {
-        return Answer::Refused(Refusal::MeanElements);
+        return Err(Refusal::MeanElements);
     }
     let x = averages(m.em, inclm, angles(n, g));
     perturbed(righted(dpper(ls, t, x)), m.am)
@@ -138,7 +135,7 @@ fn moved(ls: LunarSolar, t: Minutes, n: f64, d: resonance::dspace::Mean, g: Secu
     ensures { result ≡ D.moved ls t n d g }
 {
     if no_motion(d.nm) {
-        return Answer::Refused(Refusal::MeanMotion);
+        return Err(Refusal::MeanMotion);
     }
     let a = two_thirds(xke() / d.nm);
     averaged(ls, t, n, d.inclm, g, mean(a, d.em, g))

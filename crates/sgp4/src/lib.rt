@@ -93,7 +93,7 @@ pub fn row_of(answer: Answer) -> Row
     ensures { result ≡ R.row_of answer }
 {
     match answer {
-        Answer::Given(s, rounds) => Row {
+        Ok((s, rounds)) => Row {
             refusal: 0,
             x: s.rx,
             y: s.ry,
@@ -103,7 +103,7 @@ pub fn row_of(answer: Answer) -> Row
             vz: s.vz,
             rounds,
         },
-        Answer::Refused(why) => refused_row(number(why)),
+        Err(why) => refused_row(number(why)),
     }
 }
 

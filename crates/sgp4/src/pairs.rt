@@ -4,21 +4,21 @@ ghost use Rattle.sgp4.specs.Two as W;
 
 use crate::deep_space::pairs::deep_two;
 use crate::{Row, row_at, row_of};
+use elementary::Two;
 use instant::{Microseconds, Minutes, to_minutes};
 use resonance::held::Held;
 use satellite::{Method, Model, NearEarth};
-use state::answer::Pair;
-use state::parts::ReadyPair;
+use state::parts::Ready;
 use state::sgp4::pairs::{pair_of, ready_two};
 
-// The rows of two times.
-#[derive(Clone, Copy)]
-pub struct Rows {
-    pub first: Row,
-    pub second: Row,
-}
-
-fn ready_by(s: NearEarth, method: Method, h: Held, t: Minutes, h2: Held, t2: Minutes) -> ReadyPair
+fn ready_by(
+    s: NearEarth,
+    method: Method,
+    h: Held,
+    t: Minutes,
+    h2: Held,
+    t2: Minutes,
+) -> Option<(Ready, Ready)>
     ensures { result ≡ W.ready_by s method h t h2 t2 }
 {
     match method {
@@ -29,20 +29,20 @@ fn ready_by(s: NearEarth, method: Method, h: Held, t: Minutes, h2: Held, t2: Min
 
 // The rows of two times in range, side by side; `h` and `h2` are the positions of the whole strides that
 // they need, with the derivatives there.
-pub fn rows_at(model: Model, h: Held, t: Microseconds, h2: Held, t2: Microseconds) -> Rows
+pub fn rows_at(model: Model, h: Held, t: Microseconds, h2: Held, t2: Microseconds) -> Two<Row>
     ensures { result ≡ W.rows_by model h t.0 h2 t2.0 }
 {
     let near = model.near;
     let method = model.method;
     match pair_of(ready_by(near, method, h, to_minutes(t), h2, to_minutes(t2))) {
-        Pair::Both(a, b) => Rows {
+        Some((a, b)) => Two {
             first: row_of(a),
             second: row_of(b),
         },
-        Pair::Apart => {
+        None => {
             let p = h.place;
             let p2 = h2.place;
-            Rows {
+            Two {
                 first: row_at(model, p, t),
                 second: row_at(model, p2, t2),
             }

@@ -7,7 +7,7 @@ ghost use Rattle.sightings.specs.Sightings as S;
 
 use geodetic::Site;
 use horizon::{Look, look_angles, straight_down};
-use instant::{Elapsed, Instant, Microseconds, since};
+use instant::{Instant, Microseconds, since};
 use opening::opening::Satellite;
 use requests::request;
 use sgp4::Row;
@@ -47,33 +47,30 @@ pub fn seen_at(satellite: Satellite, site: Site, t: Instant) -> Seen
     let epoch = satellite.model.epoch;
     let elapsed = since(t, epoch);
     match elapsed {
-        Elapsed::Is(time) => seen_since(satellite, site, t, time),
-        Elapsed::Outside => Seen {
+        Some(time) => seen_since(satellite, site, t, time),
+        None => Seen {
             sine: -1.0,
             satellite,
         },
     }
 }
 
-// Azimuth, elevation and range, or the refusal of the row; 6 where the instant or the epoch lies outside
-// the calendar.
-#[derive(Clone, Copy)]
-pub enum Sighting {
-    At(Look),
-    Refused(u8),
-}
-
-fn row_sighting(site: Site, t: Instant, row: Row) -> Sighting
+fn row_sighting(site: Site, t: Instant, row: Row) -> Result<Look, u8>
     ensures { result ≡ S.row_sighting site t.0 row }
 {
     let refusal = row.refusal;
     if refusal != 0 {
-        return Sighting::Refused(refusal);
+        return Err(refusal);
     }
-    Sighting::At(look_angles(site, t, [row.x, row.y, row.z]))
+    Ok(look_angles(site, t, [row.x, row.y, row.z]))
 }
 
-fn sighted_since(satellite: Satellite, site: Site, t: Instant, time: Microseconds) -> Sighting
+fn sighted_since(
+    satellite: Satellite,
+    site: Site,
+    t: Instant,
+    time: Microseconds,
+) -> Result<Look, u8>
     ensures { result ≡ S.sighted_after site satellite t.0 time.0 }
 {
     let a = request(satellite, time);
@@ -82,14 +79,14 @@ fn sighted_since(satellite: Satellite, site: Site, t: Instant, time: Microsecond
 }
 
 // A satellite at an instant. It is not changed.
-pub fn sighted(satellite: Satellite, site: Site, t: Instant) -> Sighting
+pub fn sighted(satellite: Satellite, site: Site, t: Instant) -> Result<Look, u8>
     ensures { result ≡ S.sighted_at site satellite t.0 }
 {
     let epoch = satellite.model.epoch;
     let elapsed = since(t, epoch);
     match elapsed {
-        Elapsed::Is(time) => sighted_since(satellite, site, t, time),
-        Elapsed::Outside => Sighting::Refused(6),
+        Some(time) => sighted_since(satellite, site, t, time),
+        None => Err(6),
     }
 }
 
@@ -99,7 +96,7 @@ pub fn look_at(satellite: Satellite, site: Site, t: Instant) -> Look
 {
     let seen = sighted(satellite, site, t);
     match seen {
-        Sighting::At(look) => look,
-        Sighting::Refused(_) => straight_down(),
+        Ok(look) => look,
+        Err(_) => straight_down(),
     }
 }

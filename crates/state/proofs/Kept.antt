@@ -10,8 +10,9 @@ use Rattle.state.specs.declared.parts.Mean.{Mean}
 use Rattle.state.specs.declared.parts.Angles.{Angles}
 use Rattle.state.specs.declared.parts.Perturbed.{Perturbed}
 use Rattle.state.specs.declared.answer.Refusal.TheVariants.{MeanMotion, MeanElements}
-use Rattle.state.specs.declared.answer.Answer.{Answer}
-use Rattle.state.specs.declared.answer.Answer.TheVariants.{Refused}
+use Rattle.std.specs.Prelude.{Err, Result, ℕ}
+use Rattle.state.specs.declared.answer.State.{State}
+use Rattle.state.specs.declared.answer.Refusal.{Refusal}
 use Rattle.state.specs.Secular.{secular, no_motion, mean, outside, angles}
 use Rattle.state.specs.Sgp4.{periodics, unperturbed, averaged, sgp4}
 use Rattle.state.specs.Kept.{mean_from, unperturbed_from, averaged_from, sgp4_from}
@@ -23,12 +24,12 @@ elements_as_computed s h em a = simp (h.sine, h.cosine)
 averaged_as_computed : (s : NearEarth) → AsComputed s → (g : Secular) (m : Mean) → averaged_from s g m ≡ averaged s g m
 unfolding averaged_from averaged
 averaged_as_computed s h g m =
-    ap (λ (p : Perturbed). cond (outside m) (Refused MeanElements) (periodics p m.am s.terms))
+    ap (λ (p : Perturbed). cond (outside m) (Err MeanElements) (periodics p m.am s.terms))
     (elements_as_computed s h m.em (angles s.elements.no g))
 
 pub sgp4_as_computed : (s : NearEarth) → AsComputed s → (t : Minutes) → sgp4_from s t ≡ sgp4 s t
 unfolding sgp4_from sgp4 mean_from mean
 sgp4_as_computed s h t =
     let g = secular s t in
-    ap (λ (a : Float). cond (no_motion s.elements.no) (Refused MeanMotion) (averaged_from s g (mean_from a s.elements.ecco g))) h.axis
-    ∙ ap (λ (x : Answer). cond (no_motion s.elements.no) (Refused MeanMotion) x) (averaged_as_computed s h g (mean s.elements.no s.elements.ecco g))
+    ap (λ (a : Float). cond (no_motion s.elements.no) (Err MeanMotion) (averaged_from s g (mean_from a s.elements.ecco g))) h.axis
+    ∙ ap (λ (x : Result (State × ℕ) Refusal). cond (no_motion s.elements.no) (Err MeanMotion) x) (averaged_as_computed s h g (mean s.elements.no s.elements.ecco g))

@@ -1,6 +1,6 @@
 -- What does not wait for Kepler's equation is begun before it, and the root of am, which lines 3421 and 3537 both take, is taken once: this serves
 -- speed alone. `shortened_ahead` of proofs/Ahead: it comes to the same. Definitions only.
-use Rattle.std.specs.Prelude.{cond, Float}
+use Rattle.std.specs.Prelude.{cond, Float, Err, Result, ℕ}
 use Rattle.elementary.specs.Notation.{◌⊕◌, ◌⊖◌, ◌⊗◌, ◌⊘◌, dec}
 use Rattle.elementary.specs.Root.{sqrt_of}
 use Rattle.elementary.specs.Angle.{atan2_of}
@@ -14,8 +14,8 @@ use Rattle.state.specs.declared.parts.Ahead.{Ahead}
 use Rattle.state.specs.declared.parts.InPlane.{InPlane}
 use Rattle.state.specs.declared.parts.Plane.{Plane}
 use Rattle.state.specs.declared.answer.Refusal.TheVariants.{SemiLatusRectum}
-use Rattle.state.specs.declared.answer.Answer.{Answer}
-use Rattle.state.specs.declared.answer.Answer.TheVariants.{Refused}
+use Rattle.state.specs.declared.answer.State.{State}
+use Rattle.state.specs.declared.answer.Refusal.{Refusal}
 use Rattle.state.specs.Periodics.{negative_latus, short_period}
 use Rattle.state.specs.Sgp4.{placed}
 
@@ -55,7 +55,7 @@ unfoldable pub plane_from : Long → Anomaly → Float → Latus → Ahead → P
 plane_from long anomaly am rectum ahead = let i = in_plane long anomaly am ahead in plane_of i (atan2_of i.sinu i.cosu) rectum ahead.betal
 
 -- `shortened` of what is ahead
-unfoldable pub shortened_from : Perturbed → Float → Terms → Long → Anomaly → Latus → Ahead → Answer
+unfoldable pub shortened_from : Perturbed → Float → Terms → Long → Anomaly → Latus → Ahead → Result (State × ℕ) Refusal
 shortened_from perturbed am satrec long anomaly rectum ahead =
-    cond (negative_latus rectum) (Refused SemiLatusRectum)
+    cond (negative_latus rectum) (Err SemiLatusRectum)
     (placed (short_period perturbed ahead.nm satrec (plane_from long anomaly am rectum ahead)) anomaly.rounds)

@@ -1,6 +1,6 @@
 -- Two times at once, step by step, as long as neither is refused; they serve speed alone. proofs/Two: what they come to is what each time comes to by
 -- itself. Definitions only.
-use Rattle.std.specs.Prelude.{ℕ, cond, ◌||◌}
+use Rattle.std.specs.Prelude.{ℕ, cond, ◌||◌, None, Option, Result, Some}
 use Rattle.instant.specs.declared.Minutes.{Minutes}
 use Rattle.satellite.specs.declared.NearEarth.{NearEarth}
 use Rattle.state.specs.declared.parts.Secular.{Secular}
@@ -11,10 +11,8 @@ use Rattle.state.specs.declared.parts.Plane.{Plane}
 use Rattle.state.specs.declared.parts.Short.{Short}
 use Rattle.state.specs.declared.parts.Ready.{Ready}
 use Rattle.state.specs.declared.parts.Solved.{Solved}
-use Rattle.state.specs.declared.parts.ReadyPair.{ReadyPair}
-use Rattle.state.specs.declared.parts.ReadyPair.TheVariants as ready
-use Rattle.state.specs.declared.answer.Pair.{Pair}
-use Rattle.state.specs.declared.answer.Pair.TheVariants.{Both, Apart}
+use Rattle.state.specs.declared.answer.State.{State}
+use Rattle.state.specs.declared.answer.Refusal.{Refusal}
 use Rattle.state.specs.Secular.{secular, no_motion, outside, angles}
 use Rattle.state.specs.Kepler.{corrected, unsettled, kepler}
 use Rattle.state.specs.Periodics.{long_period, latus, negative_latus, short_period, decayed}
@@ -28,16 +26,16 @@ unfoldable pub gone_on : Long → Anomaly → ℕ → Anomaly
 gone_on long anomaly ktr = cond (unsettled anomaly) (corrected long anomaly.eo1 ktr) anomaly
 
 -- refusal 14 for neither, then orientation, position and velocity
-unfoldable pub placed_two : Short → ℕ → Short → ℕ → Pair
-placed_two s k u n = cond (decayed s || decayed u) Apart (Both (given (state s) k) (given (state u) n))
+unfoldable pub placed_two : Short → ℕ → Short → ℕ → Option ((Result (State × ℕ) Refusal) × (Result (State × ℕ) Refusal))
+placed_two s k u n = cond (decayed s || decayed u) None (Some ((given (state s) k), (given (state u) n)))
 
 unfoldable pub plane_solved : Solved → Plane
 plane_solved a = plane_from a.q a.e a.am a.l a.a
 
 -- refusal 13 for neither, then the short-period terms
-unfoldable pub shortened_two : Solved → Solved → Pair
+unfoldable pub shortened_two : Solved → Solved → Option ((Result (State × ℕ) Refusal) × (Result (State × ℕ) Refusal))
 shortened_two a b =
-    cond (negative_latus a.l || negative_latus b.l) Apart
+    cond (negative_latus a.l || negative_latus b.l) None
     (placed_two
     (short_period a.p a.a.nm a.k (plane_solved a))
     a.e.rounds
@@ -52,25 +50,25 @@ solved_of a =
     record { p = a.p; am = a.am; k = a.k; q = q; e = kepler q; l = l; a = ahead_of a.am l }
 
 -- from the long-period terms on
-unfoldable pub periodics_two : Ready → Ready → Pair
+unfoldable pub periodics_two : Ready → Ready → Option ((Result (State × ℕ) Refusal) × (Result (State × ℕ) Refusal))
 periodics_two a b = shortened_two (solved_of a) (solved_of b)
 
-unfoldable pub pair_of : ReadyPair → Pair
-pair_of (ready.Both a b) = periodics_two a b
-pair_of ready.Apart = Apart
+unfoldable pub pair_of : Option (Ready × Ready) → Option ((Result (State × ℕ) Refusal) × (Result (State × ℕ) Refusal))
+pair_of (Some (a, b)) = periodics_two a b
+pair_of None = None
 
 -- a near-Earth satellite's mean elements, made ready
 unfoldable pub ready_of : NearEarth → Secular → Mean → Ready
 ready_of s g m = record { p = unperturbed_from s m.em (angles s.elements.no g); am = m.am; k = s.terms }
 
 -- refusal 11 for neither
-unfoldable pub averaged_two : NearEarth → Secular → Mean → Secular → Mean → ReadyPair
-averaged_two s g m g2 m2 = cond (outside m || outside m2) ready.Apart (ready.Both (ready_of s g m) (ready_of s g2 m2))
+unfoldable pub averaged_two : NearEarth → Secular → Mean → Secular → Mean → Option (Ready × Ready)
+averaged_two s g m g2 m2 = cond (outside m || outside m2) None (Some ((ready_of s g m), (ready_of s g2 m2)))
 
 -- refusal 10 for neither
-unfoldable pub ready_two : NearEarth → Minutes → Minutes → ReadyPair
+unfoldable pub ready_two : NearEarth → Minutes → Minutes → Option (Ready × Ready)
 ready_two s t t2 =
     let g = secular s t in
     let g2 = secular s t2 in
-    cond (no_motion s.elements.no) ready.Apart
+    cond (no_motion s.elements.no) None
     (averaged_two s g (mean_from s.kept.ao s.elements.ecco g) g2 (mean_from s.kept.ao s.elements.ecco g2))

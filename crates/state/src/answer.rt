@@ -24,19 +24,8 @@ pub enum Refusal {
     NotFinite,
 }
 
-// A state with the rounds that Kepler's equation took.
-#[derive(Clone, Copy)]
-pub enum Answer {
-    Given(State, u8),
-    Refused(Refusal),
-}
-
-// What working on two times at once comes to: both answers, or nothing where either may be refused.
-#[derive(Clone, Copy)]
-pub enum Pair {
-    Both(Answer, Answer),
-    Apart,
-}
+// A state with the rounds that Kepler's equation took, or why there is none.
+pub type Answer = Result<(State, u8), Refusal>;
 
 pub fn number(refusal: Refusal) -> u8
     ensures { result ≡ N.number refusal }

@@ -61,14 +61,11 @@ pub fn kepler(q: Long) -> Anomaly
     ensures { result ≡ P.kepler q }
 {
     let mut k = begun(q);
-    let mut n = 0u8;
-    while n < 10 {
-        if unsettled(k) {
-            n += 1;
-            k = corrected(q, k.eo1, n);
-        } else {
+    for n in 0..10 {
+        if !unsettled(k) {
             return k;
         }
+        k = corrected(q, k.eo1, n + 1);
     }
     k
 }

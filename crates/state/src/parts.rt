@@ -47,13 +47,6 @@ pub struct Ready {
     pub k: Terms,
 }
 
-// The same of two times, or nothing where either is refused.
-#[derive(Clone, Copy)]
-pub enum ReadyPair {
-    Both(Ready, Ready),
-    Apart,
-}
-
 // With the long-period terms.
 #[derive(Clone, Copy)]
 pub struct Long {
@@ -124,13 +117,6 @@ pub struct Plane {
     pub cos2u: f64,
     pub temp1: f64,
     pub temp2: f64,
-}
-
-// The same of two times.
-#[derive(Clone, Copy)]
-pub struct Planes {
-    pub first: Plane,
-    pub second: Plane,
 }
 
 // With the short-period terms.

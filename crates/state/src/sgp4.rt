@@ -19,16 +19,16 @@ fn given(s: State, rounds: u8) -> Answer
     ensures { result ≡ R.given s rounds }
 {
     if finite_state(s) {
-        return Answer::Given(s, rounds);
+        return Ok((s, rounds));
     }
-    Answer::Refused(Refusal::NotFinite)
+    Err(Refusal::NotFinite)
 }
 
 fn placed(s: Short, rounds: u8) -> Answer
     ensures { result ≡ R.placed s rounds }
 {
     if decayed(s) {
-        return Answer::Refused(Refusal::Decayed);
+        return Err(Refusal::Decayed);
     }
     given(state(s), rounds)
 }
@@ -37,7 +37,7 @@ fn shortened(p: Perturbed, am: f64, k: Terms, q: Long, e: Anomaly, l: Latus, a: 
     ensures { result ≡ W.shortened_from p am k q e l a }
 {
     if negative_latus(l) {
-        return Answer::Refused(Refusal::SemiLatusRectum);
+        return Err(Refusal::SemiLatusRectum);
     }
     placed(short_period(p, a.nm, k, plane(q, e, am, l, a)), e.rounds)
 }
@@ -73,7 +73,7 @@ fn averaged(s: NearEarth, g: Secular, m: Mean) -> Answer
     ensures { result ≡ K.averaged_from s g m }
 {
     if outside(m) {
-        return Answer::Refused(Refusal::MeanElements);
+        return Err(Refusal::MeanElements);
     }
     let p = unperturbed(s, m.em, angles(s.elements.no, g));
     let k = s.terms;
@@ -86,7 +86,7 @@ pub fn sgp4(s: NearEarth, tsince: Minutes) -> Answer
 {
     let g = secular(s, tsince);
     if no_motion(s.elements.no) {
-        return Answer::Refused(Refusal::MeanMotion);
+        return Err(Refusal::MeanMotion);
     }
     averaged(s, g, mean(s.kept.ao, s.elements.ecco, g))
 }

@@ -1,13 +1,11 @@
 -- The lines of the passes over a station. Definitions only.
-use Rattle.std.specs.Prelude.{ℕ, List}
+use Rattle.std.specs.Prelude.{ℕ, List, Err, None, Ok, Option, Result, Some}
 use Rattle.text.specs.Output.{bytes, decimal, line}
 use Rattle.geodetic.specs.declared.Geodetic.{Geodetic}
 use Rattle.geodetic.specs.Geodetic.{site_of}
 use Rattle.opening.specs.declared.opening.Satellite.{Satellite}
 use Rattle.sightings.specs.Sightings.{look_at}
 use Rattle.passes.specs.declared.Pass.{Pass}
-use Rattle.passes.specs.declared.Passing.{Passing}
-use Rattle.passes.specs.declared.Passing.TheVariants as passing
 use Rattle.pass_text.specs.Print.{pass_text}
 
 -- the azimuth at the rise and at the set, the elevation at the highest point
@@ -18,7 +16,7 @@ found_text s g p =
     p.still p.set.0 (look p.set.0).azimuth.0
 
 -- the line of an answer behind so many passes
-abbrev pub passing_text : Satellite → Geodetic → ℕ → Passing → List ℕ
-passing_text s g count (passing.Found p) = found_text s g p
-passing_text s g count passing.Nothing = line (bytes "passes ") (decimal count)
-passing_text s g count (passing.Refused r) = line (bytes "refused ") (decimal r)
+abbrev pub passing_text : Satellite → Geodetic → ℕ → Result (Option Pass) ℕ → List ℕ
+passing_text s g count (Ok (Some p)) = found_text s g p
+passing_text s g count (Ok None) = line (bytes "passes ") (decimal count)
+passing_text s g count (Err r) = line (bytes "refused ") (decimal r)

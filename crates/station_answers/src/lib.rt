@@ -11,9 +11,10 @@ use instant::{Degrees, Instant};
 use lent_windows::windows_held;
 use pass_lines::print_passes;
 use printing::print_refused;
-use station_call::{Call, Place, Samples, Sampling, samples_of};
+use station_call::{Call, Place, Samples, samples_of};
 use station_text::{put_window, samples_in};
-use storage::{Loading, load};
+use storage::load;
+use streams::print_room;
 use text::put_line;
 
 // ---- Windows.
@@ -24,9 +25,7 @@ fn print_window(rt: HostRuntime, failed: &mut bool, first: u64, last: u64, step:
     let mut out = [0u8; 128];
     let samples = samples_in(Instant(first), Instant(last), step);
     let n = put_window(&mut out, 0, Instant(first), Instant(last), samples);
-    if n <= 128 {
-        streams::print(rt, failed, &out[0..n]);
-    }
+    print_room(rt, failed, &out, n);
 }
 
 // The first `count` windows of the rooms, a line each.
@@ -40,13 +39,8 @@ fn print_windows(
 )
     ensures { failed.old ≡ true → failed.new ≡ true }
 {
-    let mut i = 0;
-    while i < 512 {
-        if i as u64 >= count {
-            return;
-        }
-        print_window(rt, failed, firsts[i], lasts[i], step);
-        i += 1;
+    for (first, last) in firsts.iter().zip(lasts).take(count as usize) {
+        print_window(rt, failed, *first, *last, step);
     }
 }
 
@@ -55,9 +49,7 @@ fn print_strides(rt: HostRuntime, failed: &mut bool, strides: u64)
 {
     let mut out = [0u8; 64];
     let n = put_line(&mut out, 0, b"strides ", strides);
-    if n <= 64 {
-        streams::print(rt, failed, &out[0..n]);
-    }
+    print_room(rt, failed, &out, n);
 }
 
 // An answer has its refusal in bits 0-7, the number of windows in bits 16-31 and the strides above.
@@ -100,10 +92,7 @@ fn answer_windows(
 fn capped(n: u64) -> u32
     ensures { result ≡ min n 4294967295 }
 {
-    if n > 4294967295 {
-        return 4294967295;
-    }
-    n as u32
+    n.min(4294967295) as u32
 }
 
 fn answer_passes(
@@ -120,10 +109,8 @@ fn answer_passes(
     let start = samples.start;
     let count = capped(samples.count);
     match load(numbers, marks) {
-        Loading::Loaded(s) => {
-            print_passes(rt, failed, s, station, least, start.0, samples.step, count)
-        }
-        Loading::RoomTooShort => print_refused(rt, failed, 17),
+        Some(s) => { print_passes(rt, failed, s, station, least, start.0, samples.step, count) }
+        None => print_refused(rt, failed, 17),
     }
 }
 
@@ -160,7 +147,7 @@ pub fn answer(
 {
     let place = call.place;
     match samples_of(call) {
-        Sampling::At(samples) => answer_at(rt, failed, numbers, marks, place, samples),
-        Sampling::Unread => {}
+        Some(samples) => answer_at(rt, failed, numbers, marks, place, samples),
+        None => {}
     }
 }

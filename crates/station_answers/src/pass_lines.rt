@@ -8,7 +8,7 @@ use geodetic::{Geodetic, site_of};
 use instant::{Degrees, Instant};
 use opening::opening::Satellite;
 use pass_text::put_pass;
-use passes::{Pass, Passing, next_pass};
+use passes::{Pass, next_pass};
 use sightings::look_at;
 use text::put_line;
 use windows::Seconds;
@@ -45,14 +45,16 @@ pub fn put_passing(
     satellite: Satellite,
     station: Geodetic,
     count: u64,
-    found: Passing,
+    found: Result<Option<Pass>, u8>,
 ) -> usize
     ensures { Put out.old at (passing_text satellite station count found) out.new result }
 {
     match found {
-        Passing::Found(p) => put_found(out, at, satellite, station, p),
-        Passing::Nothing => put_line(out, at, b"passes ", count),
-        Passing::Refused(n) => put_line(out, at, b"refused ", n as u64),
+        Ok(passing) => match passing {
+            Some(p) => put_found(out, at, satellite, station, p),
+            None => put_line(out, at, b"passes ", count),
+        },
+        Err(n) => put_line(out, at, b"refused ", n as u64),
     }
 }
 
@@ -62,15 +64,13 @@ fn print_passing(
     satellite: Satellite,
     station: Geodetic,
     count: u64,
-    found: Passing,
+    found: Result<Option<Pass>, u8>,
 )
     ensures { failed.old ≡ true → failed.new ≡ true }
 {
     let mut out = [0u8; 256];
     let n = put_passing(&mut out, 0, satellite, station, count, found);
-    if n <= 256 {
-        streams::print(rt, failed, &out[0..n]);
-    }
+    streams::print_room(rt, failed, &out, n);
 }
 
 // One pass after the other on standard output. Each has a sample at least, so that there are no more than
@@ -89,18 +89,16 @@ pub fn print_passes(
 {
     let mut t = start;
     let mut left = samples;
-    let mut count = 0u64;
-    while count < 4294967295 {
+    for count in 0..4294967295 {
         let found = next_pass(satellite, station, least, Instant(t), Seconds(step), left);
         print_passing(rt, failed, satellite, station, count, found);
         if *failed {
             return;
         }
-        let Passing::Found(p) = found else {
+        let Ok(Some(p)) = found else {
             return;
         };
         t = p.next.0;
         left = p.left;
-        count += 1;
     }
 }

@@ -1,19 +1,17 @@
 -- Lines 3 to 6 of `station_windows`: the station, the start, the step and the number of samples. Definitions only.
-use Rattle.std.specs.Prelude.{ℕ, cond, ◌&&◌, List, [], ◌++◌, Float, drop}
+use Rattle.std.specs.Prelude.{ℕ, cond, ◌&&◌, List, [], ◌++◌, Float, drop, None, Option, Some}
 use Rattle.text.specs.Output.{bytes}
 use Rattle.request_line.specs.Request.{begun}
 use Rattle.station_text.specs.Words.{rest, first, whole_in, decimal_in, start_of, station_of}
 use Rattle.station_text.specs.declared.Whole.{Whole}
 use Rattle.station_text.specs.declared.Decimal.{Decimal}
-use Rattle.station_text.specs.declared.Start as ss
-use Rattle.station_text.specs.declared.Start.TheVariants as start
 use Rattle.station_text.specs.declared.Station as ts
 use Rattle.station_text.specs.declared.Station.TheVariants as station
 use Rattle.station_call.specs.declared.Place as ps
 use Rattle.station_call.specs.declared.Place.TheVariants as place
 use Rattle.station_call.specs.declared.Call as cs
-use Rattle.station_call.specs.declared.Sampling as gs
-use Rattle.station_call.specs.declared.Sampling.TheVariants as sampling
+use Rattle.instant.specs.declared.Instant.{Instant}
+use Rattle.station_call.specs.declared.Samples.{Samples}
 
 -- ── the station ──
 
@@ -48,14 +46,14 @@ call_of place start step count =
     record { place = place_of place; start = start_of start; step = whole_in step; count = whole_in count }
 
 -- the samples of lines 4 to 6, where all three are read
-abbrev pub sampled_from : ss.Start → ℕ → ℕ → gs.Sampling
-sampled_from (start.At t) step count = sampling.At (record { start = t; step = step; count = count })
-sampled_from start.Unread step count = sampling.Unread
+abbrev pub sampled_from : Option Instant → ℕ → ℕ → Option Samples
+sampled_from (Some t) step count = Some (record { start = t; step = step; count = count })
+sampled_from None step count = None
 
-unfoldable pub samples_from : ss.Start → Whole → Whole → gs.Sampling
-samples_from t step count = cond (step.good && count.good) (sampled_from t step.value count.value) sampling.Unread
+unfoldable pub samples_from : Option Instant → Whole → Whole → Option Samples
+samples_from t step count = cond (step.good && count.good) (sampled_from t step.value count.value) None
 
-unfoldable pub samples_of : cs.Call → gs.Sampling
+unfoldable pub samples_of : cs.Call → Option Samples
 samples_of c = samples_from c.start c.step c.count
 
 -- ── bad lines ──
@@ -65,9 +63,9 @@ place_fault (place.Fixed x y z) = []
 place_fault (place.Over g least) = []
 place_fault place.Unread = bytes "line 3: no station\n"
 
-abbrev pub start_fault : ss.Start → List ℕ
-start_fault (start.At t) = []
-start_fault start.Unread = bytes "line 4: no start\n"
+abbrev pub start_fault : Option Instant → List ℕ
+start_fault (Some t) = []
+start_fault None = bytes "line 4: no start\n"
 
 abbrev pub whole_fault : Whole → List ℕ → List ℕ
 whole_fault n fault = cond n.good [] fault

@@ -12,8 +12,7 @@ use geodetic::{Geodetic, Metres};
 use instant::{Degrees, Instant};
 use request_line::begins;
 use station_text::{
-    Decimal, Start, Station, Whole, after, cut_at, read_decimal, read_start, read_station,
-    read_whole,
+    Decimal, Station, Whole, after, cut_at, read_decimal, read_start, read_station, read_whole,
 };
 use text::put_bytes;
 
@@ -92,7 +91,7 @@ pub fn read_place(line: &[u8]) -> Place
 #[derive(Clone, Copy)]
 pub struct Call {
     pub place: Place,
-    pub start: Start,
+    pub start: Option<Instant>,
     pub step: Whole,
     pub count: Whole,
 }
@@ -120,29 +119,23 @@ pub struct Samples {
     pub count: u64,
 }
 
-#[derive(Clone, Copy)]
-pub enum Sampling {
-    At(Samples),
-    Unread,
-}
-
-fn samples_from(start: Start, step: Whole, count: Whole) -> Sampling
+fn samples_from(start: Option<Instant>, step: Whole, count: Whole) -> Option<Samples>
     ensures { result ≡ samples_from start step count }
 {
     if step.good & count.good {
         return match start {
-            Start::At(t) => Sampling::At(Samples {
+            Some(t) => Some(Samples {
                 start: t,
                 step: step.value,
                 count: count.value,
             }),
-            Start::Unread => Sampling::Unread,
+            None => None,
         };
     }
-    Sampling::Unread
+    None
 }
 
-pub fn samples_of(call: Call) -> Sampling
+pub fn samples_of(call: Call) -> Option<Samples>
     ensures { result ≡ samples_of call }
 {
     let start = call.start;
@@ -163,12 +156,12 @@ fn put_place_fault(out: &mut [u8], at: usize, place: Place) -> usize
     }
 }
 
-fn put_start_fault(out: &mut [u8], at: usize, start: Start) -> usize
+fn put_start_fault(out: &mut [u8], at: usize, start: Option<Instant>) -> usize
     ensures { Put out.old at (start_fault start) out.new result }
 {
     match start {
-        Start::At(_) => put_bytes(out, at, b""),
-        Start::Unread => put_bytes(out, at, b"line 4: no start\n"),
+        Some(_) => put_bytes(out, at, b""),
+        None => put_bytes(out, at, b"line 4: no start\n"),
     }
 }
 

@@ -1,31 +1,48 @@
--- The loops over a word: where it ends, and its digits.
+-- A word: where it ends, and its digits.
 use Prim.Native.Nat.{ℕ, suc, ◌+◌, ◌*◌, ◌-◌, ◌/◌, ◌<◌, ◌≤◌}
 use mathlib.Core.Path.{◌≡◌, refl, sym, ap, ◌∙◌}
 use mathlib.Core.List.{List}
-use mathlib.Core.Bool.{true, false}
+use mathlib.Core.Bool.{Bool, true, false, cond, not}
 use native.Mathlib.Omega.{arith}
 use native.Mathlib.Numerals.{add-one}
 use native.Mathlib.Nat.{div-le_of_le-mul}
 use lib.Dec.{eqb}
+use Rattle.std.specs.List.{position, position_or_len}
+use Rattle.std.specs.Option.{unwrap_or}
+use Rattle.std.proofs.Common.{Some, None, nat_lt}
+use Rattle.std.proofs.lemmas.List.Sums.{prefix_len-le-length}
+use Rattle.std.proofs.lemmas.List.Recursion.{is_position_or_len}
 use lib.ListN.{length, take, drop, get_or, length-take, length-drop, drop_of_length-le}
 use lib.Seq.{drop-cons, take_all}
-use borrow.Author.Tests.{eq-eqb, ne_eqb, lt-ltb, le-ltb}
+use borrow.Author.Tests.{lt-ltb, le-ltb, ltb-false}
 use Rattle.station_text.specs.declared.Whole.{Whole}
 use Rattle.station_text.specs.declared.Decimal.{Decimal}
 use Rattle.station_text.specs.Words.{cut_at, behind, rest, first, second, third, digits_on, pushed, bad, formed, six_places, onward, micro_of, signed_of, sign_size, decimal_in}
 
-module _ (mark : ℕ) (s : List ℕ) (i : ℕ) where
-  pub cut_found : i < length s → get_or s i 0 ≡ mark → cut_at mark (drop i s) ≡ 0
-  unfolding cut_at
-  cut_found h e = rw (drop-cons s i 0 h, eq-eqb (get_or s i 0) mark e)
+one_further : (b mark n : ℕ) → cond (eqb b mark) 0 (suc n) ≡ cond (eqb b mark) 0 (1 + n)
+one_further b mark n = let e : suc n ≡ 1 + n = omega arith in rw e
 
-  pub cut_on : i < length s → (get_or s i 0 ≡ mark → ⊥) → cut_at mark (drop i s) ≡ cut_at mark (drop (i + 1) s) + 1
-  unfolding cut_at
-  cut_on h e = rw (drop-cons s i 0 h, ne_eqb (get_or s i 0) mark e, add-one i, add-one (cut_at mark (drop (suc i) s)))
+-- where a mark stands, as the library's `position` has it
+pub cut_position : (mark : ℕ) (s : List ℕ) → cut_at mark s ≡ position_or_len (λ b. eqb b mark) s
+unfolding cut_at
+cut_position mark s = is_position_or_len (cut_at mark) (λ b. eqb b mark) refl (λ b bs. one_further b mark (cut_at mark bs)) s
 
-  pub cut_end : length s ≤ i → cut_at mark (drop i s) ≡ 0
-  unfolding cut_at
-  cut_end h = rw (drop_of_length-le s h)
+module _ (p : ℕ → Bool) (s : List ℕ) where
+  within : position_or_len p s ≤ length s
+  within = prefix_len-le-length (λ x. not (p x)) s
+
+  or_end : (t : Bool) → nat_lt (position_or_len p s) (length s) ≡ t → unwrap_or (cond t (Some (position_or_len p s)) None) (length s) ≡ position_or_len p s
+  or_end true e = refl
+  or_end false e = omega (arith, within, ltb-false (position_or_len p s) (length s) e)
+
+  pub position_or_end : unwrap_or (position p s) (length s) ≡ position_or_len p s
+  position_or_end = or_end (nat_lt (position_or_len p s) (length s)) refl
+
+pub cut_within : (mark : ℕ) (s : List ℕ) → cut_at mark s ≤ length s
+cut_within mark s = rw (cut_position mark s) (within (λ b. eqb b mark) s)
+
+pub cut_or_end : (mark : ℕ) (s : List ℕ) → unwrap_or (position (λ b. eqb b mark) s) (length s) ≡ cut_at mark s
+cut_or_end mark s = position_or_end (λ b. eqb b mark) s ∙ sym (cut_position mark s)
 
 pub none_behind : (s : List ℕ) (n : ℕ) → length s ≤ n → drop (length s) s ≡ behind n s
 unfolding behind

@@ -1,18 +1,17 @@
 -- Lines of `station_windows`, each by computation.
-use Rattle.std.specs.Prelude.{◌≡◌, refl, true, []}
+use Rattle.std.specs.Prelude.{◌≡◌, refl, true, [], None, Some}
 use Rattle.text.specs.Output.{bytes}
-use Rattle.station_text.specs.declared.Number.TheVariants as number
 use Rattle.station_text.specs.Words.{bad, cut_at, behind, formed, pushed, digits_on, whole_in, number_of, most_whole, micro_of}
 
-zeros_first : number_of (bytes "00060") ≡ number.Is 60
+zeros_first : number_of (bytes "00060") ≡ Some 60
 unfolding number_of whole_in digits_on pushed
 zeros_first = refl
 
-above_the_most : number_of (bytes "1000000000000000000") ≡ number.Is most_whole
+above_the_most : number_of (bytes "1000000000000000000") ≡ Some most_whole
 unfolding number_of whole_in digits_on pushed
 above_the_most = refl
 
-no_digits : number_of [] ≡ number.Unread
+no_digits : number_of [] ≡ None
 unfolding number_of whole_in
 no_digits = refl
 

@@ -1,18 +1,16 @@
 -- The line of a window: its first and its last instant, each as year, day and microseconds, and how many samples it has. Definitions only.
-use Rattle.std.specs.Prelude.{ℕ, ◌+◌, ◌-◌, ◌*◌, ◌/◌, List, [], ◌∷◌, ◌++◌, cond, ltb, eqb}
+use Rattle.std.specs.Prelude.{ℕ, ◌+◌, ◌-◌, ◌*◌, ◌/◌, List, [], ◌∷◌, ◌++◌, cond, ltb, eqb, None, Option, Some}
 use Rattle.text.specs.Output.{bytes, decimal}
 use Rattle.instant.specs.Calendar.{date_of}
 use Rattle.instant.specs.declared.Date.{Date}
-use Rattle.instant.specs.declared.Dated.{Dated}
-use Rattle.instant.specs.declared.Dated.TheVariants as dated
 
 unfoldable pub dates_text : Date → List ℕ
 dates_text d = decimal d.year ++ ((32 ∷ []) ++ (decimal d.day ++ ((32 ∷ []) ++ decimal d.micros)))
 
 -- an instant outside the calendar has no date
-unfoldable pub date_text : Dated → List ℕ
-date_text (dated.On d) = dates_text d
-date_text dated.Outside = bytes "-"
+unfoldable pub date_text : Option Date → List ℕ
+date_text (Some d) = dates_text d
+date_text None = bytes "-"
 
 unfoldable pub window_text : ℕ → ℕ → ℕ → List ℕ
 window_text first last samples =

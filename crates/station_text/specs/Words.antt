@@ -1,19 +1,16 @@
 -- The lines of `station_windows`: three decimals, three whole numbers, one whole number; one blank between words. Definitions only.
-use Rattle.std.specs.Prelude.{ℕ, suc, ◌+◌, ◌*◌, ◌-◌, List, [], ◌∷◌, Bool, true, false, cond, ◌&&◌, leb, ltb, eqb, length, take, drop}
+use Rattle.std.specs.Prelude.{ℕ, suc, ◌+◌, ◌*◌, ◌-◌, List, [], ◌∷◌, Bool, true, false, cond, ◌&&◌, leb, ltb, eqb, length, take, drop, Err, None, Ok, Option, Result, Some}
 use Rattle.std.specs.Float.Ieee.{neg}
 use Rattle.std.proofs.lemmas.List.Edits.{sets}
 use Rattle.text.specs.Output.{bytes}
 use Rattle.request_line.specs.Request.{begun}
 use Rattle.instant.specs.Quantity.{decimal_of}
-use Rattle.instant.specs.declared.Moved.{Moved}
-use Rattle.instant.specs.declared.Moved.TheVariants as moved
+use Rattle.instant.specs.declared.Instant.{Instant}
+use Rattle.instant.specs.declared.MoveRefusal.{MoveRefusal}
+use Rattle.instant.specs.declared.MoveRefusal.TheVariants as move_refusal
 use Rattle.lent_instants.specs.Instants.{instant_of}
 use Rattle.station_text.specs.declared.Whole.{Whole}
 use Rattle.station_text.specs.declared.Decimal.{Decimal}
-use Rattle.station_text.specs.declared.Number as ns
-use Rattle.station_text.specs.declared.Number.TheVariants as number
-use Rattle.station_text.specs.declared.Start as ss
-use Rattle.station_text.specs.declared.Start.TheVariants as start
 use Rattle.station_text.specs.declared.Station as ps
 use Rattle.station_text.specs.declared.Station.TheVariants as station
 
@@ -63,20 +60,20 @@ digits_on v (b ∷ bs) = cond (ltb b 48) bad (cond (ltb 57 b) bad (digits_on (pu
 unfoldable pub whole_in : List ℕ → Whole
 whole_in s = cond (eqb (length s) 0) bad (digits_on 0 s)
 
-unfoldable pub number_of : List ℕ → ns.Number
-number_of line = cond (whole_in line).good (number.Is (whole_in line).value) number.Unread
+unfoldable pub number_of : List ℕ → Option ℕ
+number_of line = cond (whole_in line).good (Some (whole_in line).value) None
 
 -- ── the start ──
 
-abbrev pub start_at : Moved → ss.Start
-start_at (moved.To t) = start.At t
-start_at moved.TooFar = start.Unread
-start_at moved.Outside = start.Unread
+abbrev pub start_at : Result Instant MoveRefusal → Option Instant
+start_at (Ok t) = Some t
+start_at (Err move_refusal.TooFar) = None
+start_at (Err move_refusal.Outside) = None
 
-unfoldable pub start_from : Whole → Whole → Whole → ss.Start
-start_from y d u = cond (y.good && d.good && u.good) (start_at (instant_of y.value d.value u.value)) start.Unread
+unfoldable pub start_from : Whole → Whole → Whole → Option Instant
+start_from y d u = cond (y.good && d.good && u.good) (start_at (instant_of y.value d.value u.value)) None
 
-unfoldable pub start_of : List ℕ → ss.Start
+unfoldable pub start_of : List ℕ → Option Instant
 start_of line = start_from (whole_in (first line)) (whole_in (second line)) (whole_in (third line))
 
 -- ── the station ──

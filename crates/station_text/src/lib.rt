@@ -9,7 +9,7 @@ ghost use Rattle.instant.specs.Calendar.{date_of};
 ghost use Rattle.station_text.specs.Words.{cut_at, behind, most_whole, pushed, digits_on, whole_in, number_of, start_from, start_of, formed, six_places, onward, micro_of, signed_of, sign_size, decimal_in, station_from, station_of};
 ghost use Rattle.station_text.specs.Print.{date_text, dates_text, window_text, samples_in};
 
-use instant::{Date, Dated, Instant, Moved, date_of, decimal};
+use instant::{Date, Instant, MoveRefusal, date_of, decimal};
 use lent_instants::instant_of;
 use request_line::begins;
 use text::{put_byte, put_bytes, put_decimal};
@@ -20,14 +20,7 @@ use text::{put_byte, put_bytes, put_decimal};
 pub fn cut_at(s: &[u8], mark: u8) -> usize
     ensures { (result ≡ cut_at mark s.now) × (result ≤ length s.now) }
 {
-    let mut i = 0;
-    while i < s.len() {
-        if s[i] == mark {
-            return i;
-        }
-        i += 1;
-    }
-    i
+    s.iter().position(|&b| b == mark).unwrap_or(s.len())
 }
 
 // Where the bytes behind an index begin; there are none behind the end.
@@ -65,9 +58,7 @@ fn digits_on(value: u64, s: &[u8]) -> Whole
     ensures { (result ≡ digits_on value s.now) × (result.value ≤ most_whole) }
 {
     let mut v = value;
-    let mut i = 0;
-    while i < s.len() {
-        let b = s[i];
+    for &b in s {
         if b < b'0' {
             return Whole {
                 good: false,
@@ -81,7 +72,6 @@ fn digits_on(value: u64, s: &[u8]) -> Whole
             };
         }
         v = push(v, (b - b'0') as u64);
-        i += 1;
     }
     Whole {
         good: true,
@@ -101,46 +91,35 @@ pub fn read_whole(s: &[u8]) -> Whole
     digits_on(0, s)
 }
 
-#[derive(Clone, Copy)]
-pub enum Number {
-    Is(u64),
-    Unread,
-}
-
 // A line that is one whole number.
-pub fn read_number(line: &[u8]) -> Number
+pub fn read_number(line: &[u8]) -> Option<u64>
     ensures { result ≡ number_of line.now }
 {
     let n = read_whole(line);
     if n.good {
-        return Number::Is(n.value);
+        return Some(n.value);
     }
-    Number::Unread
+    None
 }
 
 // ---- The start.
 
-#[derive(Clone, Copy)]
-pub enum Start {
-    At(Instant),
-    Unread,
-}
-
-fn start_from(year: Whole, day: Whole, micros: Whole) -> Start
+#[tactic(auto, unfolding(crate::specs::Words::start_from))]
+fn start_from(year: Whole, day: Whole, micros: Whole) -> Option<Instant>
     ensures { result ≡ start_from year day micros }
 {
     if year.good & day.good & micros.good {
         return match instant_of(year.value, day.value, micros.value) {
-            Moved::To(t) => Start::At(t),
-            Moved::TooFar => Start::Unread,
-            Moved::Outside => Start::Unread,
+            Ok(t) => Some(t),
+            Err(MoveRefusal::TooFar) => None,
+            Err(MoveRefusal::Outside) => None,
         };
     }
-    Start::Unread
+    None
 }
 
 // Year, day of the year from 1 and microseconds of that day, as print_pair prints an epoch.
-pub fn read_start(line: &[u8]) -> Start
+pub fn read_start(line: &[u8]) -> Option<Instant>
     ensures { result ≡ start_of line.now }
 {
     let n = cut_at(line, b' ');
@@ -306,8 +285,8 @@ fn put_date(out: &mut [u8], at: usize, t: Instant) -> usize
     ensures { Put out.old at (date_text (date_of t.0)) out.new result }
 {
     match date_of(t) {
-        Dated::On(d) => put_day(out, at, d),
-        Dated::Outside => put_byte(out, at, b'-'),
+        Some(d) => put_day(out, at, d),
+        None => put_byte(out, at, b'-'),
     }
 }
 

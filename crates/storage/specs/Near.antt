@@ -1,13 +1,13 @@
 -- A satellite near the Earth in less memory: the first 36 of a satellite's numbers, and its marks. A deep-space satellite is known by its kind, the mark 3,
 -- and is not held by so little. Definitions only.
-use Rattle.std.specs.Prelude.{ℕ, Bool, cond, not, ◌||◌, List, ◌++◌, eqb, ltb, length, take, drop, get_or, Float}
+use Rattle.std.specs.Prelude.{ℕ, Bool, cond, not, ◌||◌, List, ◌++◌, eqb, ltb, length, take, drop, get_or, Float, Err, Ok, Result}
 use Rattle.instant.specs.declared.Instant.{Instant}
 use Rattle.satellite.specs.declared.NearEarth.{NearEarth}
 use Rattle.satellite.specs.declared.Method.TheVariants as method
 use Rattle.opening.specs.declared.opening.Satellite.{Satellite}
 use Rattle.opening.specs.Opening.{newly}
-use Rattle.storage.specs.declared.NearLoading.{NearLoading}
-use Rattle.storage.specs.declared.NearLoading.TheVariants.{Loaded, DeepSpace, RoomTooShort}
+use Rattle.storage.specs.declared.NearRefusal.{NearRefusal}
+use Rattle.storage.specs.declared.NearRefusal.TheVariants as unloaded
 use Rattle.storage.specs.Storage.{near_earth_at, numbers_of, marks_of}
 
 -- a satellite near the Earth as it is newly opened
@@ -21,9 +21,9 @@ near_short n m = ltb n 36 || ltb m 6
 abbrev pub near_kind : List ℕ → Bool
 near_kind ms = eqb (get_or ms 3 0) 0
 
-unfoldable pub near_loading_of : List Float → List ℕ → NearLoading
+unfoldable pub near_loading_of : List Float → List ℕ → Result NearEarth NearRefusal
 near_loading_of ns ms =
-    cond (near_short (length ns) (length ms)) RoomTooShort (cond (near_kind ms) (Loaded (near_earth_at ns (not (eqb (get_or ms 2 0) 0)))) DeepSpace)
+    cond (near_short (length ns) (length ms)) (Err unloaded.RoomTooShort) (cond (near_kind ms) (Ok (near_earth_at ns (not (eqb (get_or ms 2 0) 0)))) (Err unloaded.DeepSpace))
 
 -- document 01's refusal 17, or 0
 unfoldable pub near_refusal : ℕ → ℕ → ℕ

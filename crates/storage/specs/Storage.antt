@@ -5,7 +5,7 @@
 --   marks    0 side; 1 stride number; 2 isimp; 3 kind; 4-5 the epoch's instant, its low and its high 32 bits
 --
 -- A near-Earth satellite has +0.0 from 36 on, and one that has fewer than ten coefficients after them.
-use Rattle.std.specs.Prelude.{ℕ, ◌+◌, ◌*◌, ◌/◌, ◌%◌, Bool, true, false, cond, not, ◌||◌, List, [], ◌∷◌, ◌++◌, eqb, ltb, length, drop, get_or, replicate, pos, Float}
+use Rattle.std.specs.Prelude.{ℕ, ◌+◌, ◌*◌, ◌/◌, ◌%◌, Bool, true, false, cond, not, ◌||◌, List, [], ◌∷◌, ◌++◌, eqb, ltb, length, drop, get_or, replicate, pos, Float, None, Option, Some}
 use Rattle.std.specs.Float.{nan, fin}
 use Rattle.instant.specs.declared.Instant.{Instant}
 use Rattle.satellite.specs.declared.Elements.{Elements}
@@ -31,8 +31,6 @@ use Rattle.resonance.specs.declared.place.Place.{Place}
 use Rattle.resonance.specs.declared.place.Side.{Side}
 use Rattle.resonance.specs.declared.place.Side.TheVariants as side
 use Rattle.opening.specs.declared.opening.Satellite.{Satellite}
-use Rattle.storage.specs.declared.Loading.{Loading}
-use Rattle.storage.specs.declared.Loading.TheVariants.{Loaded, RoomTooShort}
 
 -- ── a satellite's numbers and marks ──
 
@@ -272,13 +270,13 @@ satellite_of ns ms = record { model = model_at ns ms; place = place_at ns ms }
 unfoldable pub too_short : ℕ → ℕ → Bool
 too_short n m = ltb n 83 || ltb m 6
 
-unfoldable pub loading_of : List Float → List ℕ → Loading
-loading_of ns ms = cond (too_short (length ns) (length ms)) RoomTooShort (Loaded (satellite_of ns ms))
+unfoldable pub loading_of : List Float → List ℕ → Option Satellite
+loading_of ns ms = cond (too_short (length ns) (length ms)) None (Some (satellite_of ns ms))
 
 -- document 01's number of each answer; nothing comes back with it
-abbrev pub loading_number : Loading → ℕ
-loading_number (Loaded s) = 0
-loading_number RoomTooShort = 17
+abbrev pub loading_number : Option Satellite → ℕ
+loading_number (Some s) = 0
+loading_number None = 17
 
 -- what storing answers has the same number
 unfoldable pub store_refusal : ℕ → ℕ → ℕ

@@ -15,30 +15,20 @@ use satellite::{
     NearEarth, OneDay, Periodics, Rates, Resonance, SecularRates, Terms,
 };
 
-// What loading gives: a satellite, or document 01's refusal 17.
-#[derive(Clone, Copy)]
-pub enum Loading {
-    Loaded(Satellite),
-    RoomTooShort,
-}
-
-impl Loading {
-    // Document 01's number of the answer, 0 where there is a satellite.
-    pub fn number(self) -> u8
-        ensures { result ≡ S.loading_number self }
-    {
-        match self {
-            Loading::Loaded(_) => 0,
-            Loading::RoomTooShort => 17,
-        }
+// Document 01's number of what loading answers: 17 where the memory is too short for a satellite.
+pub fn loading_number(loaded: Option<Satellite>) -> u8
+    ensures { result ≡ S.loading_number loaded }
+{
+    match loaded {
+        Some(_) => 0,
+        None => 17,
     }
 }
 
-// What loading a satellite near the Earth gives, from memory for its numbers alone: DeepSpace where the
-// memory holds another satellite, document 01's refusal 17 where it holds none.
+// Why no satellite near the Earth is loaded from memory for its numbers alone: DeepSpace where the memory
+// holds another satellite, document 01's refusal 17 where it holds none.
 #[derive(Clone, Copy)]
-pub enum NearLoading {
-    Loaded(NearEarth),
+pub enum NearRefusal {
     DeepSpace,
     RoomTooShort,
 }
@@ -320,30 +310,30 @@ fn held(numbers: &[f64], marks: &[u32]) -> Satellite
 }
 
 // The satellite that lies in the memory, whoever wrote it.
-pub fn load(numbers: &[f64], marks: &[u32]) -> Loading
+pub fn load(numbers: &[f64], marks: &[u32]) -> Option<Satellite>
     ensures { result ≡ S.loading_of numbers.now marks.now }
 {
     if numbers.len() < 83 {
-        return Loading::RoomTooShort;
+        return None;
     }
     if marks.len() < 6 {
-        return Loading::RoomTooShort;
+        return None;
     }
-    Loading::Loaded(held(numbers, marks))
+    Some(held(numbers, marks))
 }
 
 // The satellite near the Earth that lies in the memory, whoever wrote it.
-pub fn load_near(numbers: &[f64], marks: &[u32]) -> NearLoading
+pub fn load_near(numbers: &[f64], marks: &[u32]) -> Result<NearEarth, NearRefusal>
     ensures { result ≡ N.near_loading_of numbers.now marks.now }
 {
     if numbers.len() < 36 {
-        return NearLoading::RoomTooShort;
+        return Err(NearRefusal::RoomTooShort);
     }
     if marks.len() < 6 {
-        return NearLoading::RoomTooShort;
+        return Err(NearRefusal::RoomTooShort);
     }
     if marks[3] != 0 {
-        return NearLoading::DeepSpace;
+        return Err(NearRefusal::DeepSpace);
     }
-    NearLoading::Loaded(near_earth_at(numbers, marks[2] != 0))
+    Ok(near_earth_at(numbers, marks[2] != 0))
 }

@@ -23,7 +23,7 @@ use Rattle.storage.specs.Storage.{place_numbers, near_numbers, lunar_solar_numbe
 use Rattle.storage.specs.Storage.{side_mark, isimp_mark, resonance_mark, method_mark, model_marks, place_marks, marks_of}
 use Rattle.storage.specs.Storage.{near_earth_at, lunar_solar_at, resonance_at, integrator_at, deep_space_at, method_at, side_at, place_at, epoch_at, model_at, satellite_of}
 use Rattle.storage.specs.Storage.{loading_of, stored_numbers, stored_marks, placed_numbers, placed_marks}
-use Rattle.storage.specs.declared.Loading.TheVariants.{Loaded}
+use Rattle.std.specs.Prelude.{Some}
 use Rattle.storing.proofs.Rooms.{enough, length_numbers, length_marks}
 
 side_kept : (x : Side) → side_at (side_mark x) ≡ x
@@ -115,16 +115,16 @@ placed p ns ms =
 -- ── what the functions leave in memory that is long enough, loaded ──
 
 module _ (ns : List Float) (ms : List ℕ) (h : 83 ≤ length ns) (k : 6 ≤ length ms) where
-  pub stored_loads : (s : Satellite) → loading_of (stored_numbers s ns ms) (stored_marks s ns ms) ≡ Loaded s
+  pub stored_loads : (s : Satellite) → loading_of (stored_numbers s ns ms) (stored_marks s ns ms) ≡ Some s
   unfolding loading_of stored_numbers stored_marks
   stored_loads s =
       let e = enough (length (numbers_of s ++ drop 83 ns)) (length (marks_of s ++ drop 6 ms))
       (omega (arith, length-append (numbers_of s) (drop 83 ns), length_numbers s)) (omega (arith, length-append (marks_of s) (drop 6 ms), length_marks s)) in
-      rw (enough (length ns) (length ms) h k, e) (ap Loaded (kept s ns ms))
+      rw (enough (length ns) (length ms) h k, e) (ap Some (kept s ns ms))
 
-  pub placed_loads : (p : Place) → loading_of (placed_numbers p ns ms) (placed_marks p ns ms) ≡ Loaded (record { model = (satellite_of ns ms).model; place = p })
+  pub placed_loads : (p : Place) → loading_of (placed_numbers p ns ms) (placed_marks p ns ms) ≡ Some (record { model = (satellite_of ns ms).model; place = p })
   unfolding loading_of placed_numbers placed_marks place_numbers place_marks
   placed_loads p =
       let e = enough (length (place_numbers p ++ drop 2 ns)) (length (place_marks p ++ drop 2 ms))
       (omega (arith, length-drop 2 ns)) (omega (arith, length-drop 2 ms)) in
-      rw (enough (length ns) (length ms) h k, e) (ap Loaded (placed p ns ms))
+      rw (enough (length ns) (length ms) h k, e) (ap Some (placed p ns ms))

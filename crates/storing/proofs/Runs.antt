@@ -1,11 +1,10 @@
 -- Runs of stores one after the other, and how many elements each has.
 use mathlib.Core.Path.{◌≡◌, sym, ap, ◌∙◌}
-use mathlib.Core.List.{List, [], ◌∷◌, ◌++◌}
-use Prim.Native.Nat.{ℕ, suc, ◌+◌, ◌≤◌, ◌<◌}
-use native.Mathlib.Numerals.{add-one}
+use mathlib.Core.List.{List, [], ◌∷◌, ◌++◌, append_assoc}
+use Prim.Native.Nat.{ℕ, suc, ◌+◌, ◌-◌, ◌≤◌}
 use native.Mathlib.Omega.{arith}
-use lib.ListN.{length, take, drop, set, get_or}
-use lib.Seq.{sets, sets-eq, take-suc, length-take-le}
+use lib.ListN.{length, take, drop, set}
+use lib.Seq.{sets, sets-eq, drop-drop}
 
 module _ {A : Type 0} where
   -- a run where the last one ended
@@ -13,11 +12,11 @@ module _ {A : Type 0} where
   run_append [] ys l i j e = ap (λ k. sets l k ys) (omega arith)
   run_append (x ∷ xs) ys l i j e = run_append xs ys (set l i x) (suc i) j (omega arith)
 
-  -- one element more
-  pub run_turn : (vs l : List A) (at i : ℕ) (d : A) → i < length vs → set (sets l at (take i vs)) (at + i) (get_or vs i d) ≡ sets l at (take (i + 1) vs)
-  run_turn vs l at i d h =
-      run_append (take i vs) (get_or vs i d ∷ []) l at (at + i) (ap (λ k. at + k) (length-take-le i vs (omega arith)))
-      ∙ ap (λ t. sets l at t) (sym (ap (λ k. take k vs) (add-one i) ∙ take-suc vs i d h))
+  -- a run copied over the elements from i on, as the part that was lent comes back
+  pub run_over : (xs ys l : List A) (i : ℕ) → i + length xs ≤ length l → ys ≡ xs → take i l ++ (ys ++ drop (i + length xs - i) (drop i l)) ≡ sets l i xs
+  run_over xs ys l i h e =
+      let k : i + length xs - i ≡ length xs = omega arith in
+      rw (e, k, drop-drop (length xs) i l) (sym (append_assoc (take i l) xs (drop (i + length xs) l)) ∙ sym (sets-eq xs l i h))
 
   -- m, which a run left, and n, which the next left after it
   pub run_next : (l m n us xs ys : List A) (i j : ℕ) → m ≡ sets l i xs → i + length xs ≡ j → n ≡ sets m j us → us ≡ ys → n ≡ sets l i (xs ++ ys)

@@ -107,11 +107,8 @@ fn put(numbers: &mut [f64], at: usize, values: &[f64])
     requires { at + length values.now ≤ length numbers.old }
     ensures { numbers.new ≡ sets numbers.old at values.now }
 {
-    let mut i = 0;
-    while i < values.len() {
-        numbers[at + i] = values[i];
-        i += 1;
-    }
+    let end = at + values.len();
+    numbers[at..end].copy_from_slice(values);
 }
 
 fn put_near(numbers: &mut [f64], n: NearEarth)

@@ -8,7 +8,8 @@ mod words; // the words of an error
 ghost use Rattle.std.specs.Prelude.{◌≡◌, true};
 ghost use Rattle.io.specs.Counts.{IsPrefixLen};
 
-use std::io::{Error, Print, Read};
+use std::fmt::Display;
+use std::io::{Error, Print, Read, Result, Write};
 use text::put_decimal;
 use words::Words;
 
@@ -65,19 +66,40 @@ pub fn read(rt: HostRuntime, failed: &mut bool, buffer: &mut [u8]) -> usize
     )
 }
 
+// A write that failed is told, and marks the flag.
+fn mark(rt: HostRuntime, failed: &mut bool, written: Result<()>)
+    ensures { failed.old ≡ true → failed.new ≡ true }
+{
+    if let Err(error) = written {
+        fail(rt, b"cannot write to standard output", &error);
+        *failed = true;
+    }
+}
+
 // Writes the whole text to standard output.
 pub fn print(rt: HostRuntime, failed: &mut bool, text: &[u8])
     ensures { failed.old ≡ true → failed.new ≡ true }
 {
-    if *failed {
-        return;
+    if !*failed {
+        mark(rt, failed, rt.stdout().write_all(text));
     }
-    match rt.stdout().write_all(text) {
-        Ok(()) => {}
-        Err(error) => {
-            fail(rt, b"cannot write to standard output", &error);
-            *failed = true;
-        }
+}
+
+// Writes the first bytes of a room to standard output; nothing where the room has fewer.
+pub fn print_room(rt: HostRuntime, failed: &mut bool, room: &[u8], n: usize)
+    ensures { failed.old ≡ true → failed.new ≡ true }
+{
+    if n <= room.len() {
+        print(rt, failed, &room[..n]);
+    }
+}
+
+// Writes to standard output what a value shows, and a newline behind it.
+pub fn print_line<D: Display + Drop>(rt: HostRuntime, failed: &mut bool, shown: D)
+    ensures { failed.old ≡ true → failed.new ≡ true }
+{
+    if !*failed {
+        mark(rt, failed, rt.stdout().writeln(shown));
     }
 }
 

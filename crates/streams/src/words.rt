@@ -11,12 +11,8 @@ pub(crate) struct Words {
 
 // Where the number begins, ` (os error`, or else the end.
 fn before_number(text: &[u8]) -> usize {
-    for i in 0..text.len() {
-        if text[i..].starts_with(b" (os error") {
-            return i;
-        }
-    }
-    text.len()
+    let number = text.windows(10).position(|w| w == b" (os error".as_slice());
+    number.unwrap_or(text.len())
 }
 
 impl Words {

@@ -8,59 +8,52 @@
 mod words; // from text to numbers
 mod tally; // what is counted
 
-use streams::print;
+use streams::{print, print_line};
 use tally::{Tally, count_lines};
 
-const SQRT: u8 = 0;
-
-const CBRT: u8 = 1;
-
-const SIN: u8 = 2;
-
-const COS: u8 = 3;
-
-const ATAN2: u8 = 4;
-
-const UNKNOWN: u8 = 5;
-
-const COMMENT: u8 = 6;
-
-fn print_first(rt: HostRuntime, failed: &mut bool, input: &[u8], t: Tally) {
-    let from = t.from;
-    let to = t.to;
-    if from < to {
-        if to <= input.len() {
-            print(rt, failed, b"  first: ");
-            print(rt, failed, &input[from..to]);
-            print(rt, failed, b"\n");
-        }
-    }
+// What a line is of.
+#[derive(Clone, Copy, PartialEq, Eq)]
+pub(crate) enum Kind {
+    Sqrt,
+    Cbrt,
+    Sin,
+    Cos,
+    Atan2,
+    Unknown,
+    Comment,
 }
 
-fn report(rt: HostRuntime, failed: &mut bool, input: &[u8], name: &[u8], which: u8) {
-    let t = count_lines(input, which);
-    print(rt, failed, name);
-    streams::print_decimal(rt, failed, t.lines);
-    print(rt, failed, b" compared, ");
-    streams::print_decimal(rt, failed, t.differ);
-    print(rt, failed, b" differ\n");
-    print_first(rt, failed, input, t);
+fn print_first(rt: HostRuntime, failed: &mut bool, t: Tally<'_>) {
+    if t.first.is_empty() {
+        return;
+    }
+    print(rt, failed, b"  first: ");
+    print(rt, failed, t.first);
+    print(rt, failed, b"\n");
+}
+
+fn report(rt: HostRuntime, failed: &mut bool, input: &[u8], name: &str, kind: Kind) {
+    let t = count_lines(input, kind);
+    print_line(
+        rt,
+        failed,
+        format_args!("{name}: {} compared, {} differ", t.lines, t.differ),
+    );
+    print_first(rt, failed, t);
 }
 
 fn report_unknown(rt: HostRuntime, failed: &mut bool, input: &[u8]) {
-    let t = count_lines(input, UNKNOWN);
-    print(rt, failed, b"not read: ");
-    streams::print_decimal(rt, failed, t.lines);
-    print(rt, failed, b"\n");
-    print_first(rt, failed, input, t);
+    let t = count_lines(input, Kind::Unknown);
+    print_line(rt, failed, format_args!("not read: {}", t.lines));
+    print_first(rt, failed, t);
 }
 
 fn report_all(rt: HostRuntime, failed: &mut bool, input: &[u8]) {
-    report(rt, failed, input, b"sqrt: ", SQRT);
-    report(rt, failed, input, b"cbrt: ", CBRT);
-    report(rt, failed, input, b"sin: ", SIN);
-    report(rt, failed, input, b"cos: ", COS);
-    report(rt, failed, input, b"atan2: ", ATAN2);
+    report(rt, failed, input, "sqrt", Kind::Sqrt);
+    report(rt, failed, input, "cbrt", Kind::Cbrt);
+    report(rt, failed, input, "sin", Kind::Sin);
+    report(rt, failed, input, "cos", Kind::Cos);
+    report(rt, failed, input, "atan2", Kind::Atan2);
     report_unknown(rt, failed, input);
 }
 

@@ -5,7 +5,10 @@
 
 ghost use Rattle.std.specs.Prelude.{◌<◌, ◌≤◌};
 
-use instant::{Angle, Dated, DayCount, Elapsed, Epoch, Instant, Microseconds, Moved};
+use instant::{Days, Instant, Microseconds, MoveRefusal, Radians};
+use std::fmt;
+use std::fmt::Display;
+use streams::print_line;
 
 // A line so far: its operation's name, read as a number; how many numbers it has, how many digits the
 // last one has, and the last four of them, d the last; and whether it broke the form.
@@ -21,20 +24,46 @@ struct Line {
     broken: bool,
 }
 
-// How many lines of each operation were compared, how many differ, and the number of the first.
+// How many lines of an operation were compared, how many differ, and the number of the first.
 #[derive(Clone, Copy)]
-struct Tallies {
-    lines: u64,
-    compared: [u64; 11],
-    differ: [u64; 11],
-    first: [u64; 11],
+struct Tally {
+    compared: u64,
+    differ: u64,
+    first: u64,
 }
 
+impl Display for Tally {
+    fn fmt<W: fmt::Write>(&self, f: &mut fmt::Formatter<W>) -> fmt::Result {
+        write!(f, "{} compared, {} differ", self.compared, self.differ)?;
+        if self.differ > 0 {
+            write!(f, ", the first in line {}", self.first)?;
+        }
+        Ok(())
+    }
+}
+
+// The line so far, how many went before it, and what came of those of each operation.
 #[derive(Clone, Copy)]
 struct Run {
     line: Line,
-    tallies: Tallies,
+    lines: u64,
+    tallies: [Tally; 11],
 }
+
+// What is counted: the operations, and the lines of no known name.
+const NAMES: [&str; 11] = [
+    "epoch",
+    "split",
+    "move",
+    "since",
+    "minutes",
+    "days",
+    "jd",
+    "gst",
+    "twice",
+    "back",
+    "unreadable",
+];
 
 fn no_line() -> Line {
     Line {
@@ -53,30 +82,24 @@ fn no_line() -> Line {
 fn digit(byte: u8) -> u64
     ensures { result ≤ 16 }
 {
-    if b'0' <= byte {
-        if byte <= b'9' {
-            return (byte - b'0') as u64;
-        }
+    match byte {
+        b'0'..=b'9' => (byte - b'0') as u64,
+        b'a'..=b'f' => (byte - b'a') as u64 + 10,
+        _ => 16,
     }
-    if b'a' <= byte {
-        if byte <= b'f' {
-            return (byte - b'a') as u64 + 10;
-        }
-    }
-    16
 }
 
 // A blank begins a number; the one before it, if any, has to be whole.
 fn next_number(l: Line) -> Line {
     Line {
-        name: l.name,
-        numbers: std::num::wrapping_add_u64(l.numbers, 1),
+        numbers: l.numbers.wrapping_add(1),
         digits: 0,
         a: l.b,
         b: l.c,
         c: l.d,
         d: 0,
         broken: l.broken | (l.digits != 16) | (l.numbers == 4),
+        ..l
     }
 }
 
@@ -90,13 +113,8 @@ fn name_byte(l: Line, byte: u8) -> Line {
     }
     Line {
         name: next,
-        numbers: 0,
-        digits: 16,
-        a: 0,
-        b: 0,
-        c: 0,
-        d: 0,
         broken,
+        ..no_line()
     }
 }
 
@@ -112,14 +130,10 @@ fn digit_byte(l: Line, byte: u8) -> Line {
         }
     }
     Line {
-        name: l.name,
-        numbers: l.numbers,
-        digits: std::num::wrapping_add_u64(l.digits, 1),
-        a: l.a,
-        b: l.b,
-        c: l.c,
+        digits: l.digits.wrapping_add(1),
         d: next,
         broken,
+        ..l
     }
 }
 
@@ -135,40 +149,33 @@ fn pushed(l: Line, byte: u8) -> Line {
 
 // A number of two's complement.
 fn signed(x: u64) -> i64 {
-    if x < 9223372036854775808 {
-        return x as i64;
-    }
-    let y = (18446744073709551615 - x) as i64;
-    !y
+    x.cast_signed()
 }
 
 // Bit for bit; no case expects a NaN.
 fn same(x: f64, bits: u64) -> bool {
-    if x == x {
-        return f64::to_bits(x) == bits;
-    }
-    false
+    !x.is_nan() && x.to_bits() == bits
 }
 
 fn epoch_right(year: u64, day: u64, known: u64, instant: u64) -> bool {
     match instant::epoch_instant(year, day) {
-        Epoch::At(t) => (known == 1) & (instant == t.0),
-        Epoch::Outside => (known == 0) & (instant == 0),
+        Some(t) => (known == 1) & (instant == t.0),
+        None => (known == 0) & (instant == 0),
     }
 }
 
 fn split_right(instant: u64, year: u64, day: u64, micros: u64) -> bool {
     match instant::date_of(Instant(instant)) {
-        Dated::On(x) => (x.year == year) & (x.day == day) & (x.micros == micros),
-        Dated::Outside => (year == 0) & (day == 0) & (micros == 0),
+        Some(x) => (x.year == year) & (x.day == day) & (x.micros == micros),
+        None => (year == 0) & (day == 0) & (micros == 0),
     }
 }
 
 fn move_right(instant: u64, span: u64, refusal: u64, moved: u64) -> bool {
     match instant::move_by(Instant(instant), Microseconds(signed(span))) {
-        Moved::To(t) => (refusal == 0) & (moved == t.0),
-        Moved::TooFar => (refusal == 9) & (moved == 0),
-        Moved::Outside => (refusal == 6) & (moved == 0),
+        Ok(t) => (refusal == 0) & (moved == t.0),
+        Err(MoveRefusal::TooFar) => (refusal == 9) & (moved == 0),
+        Err(MoveRefusal::Outside) => (refusal == 6) & (moved == 0),
     }
 }
 
@@ -177,38 +184,38 @@ fn twice_right(instant: u64, first: u64, second: u64, res: u64) -> bool {
     let x = Microseconds(signed(first));
     let y = Microseconds(signed(second));
     match moves::move_twice(Instant(instant), x, y) {
-        Moved::To(t) => res == t.0,
-        Moved::TooFar => res == 0xfffffffffffffff7,
-        Moved::Outside => res == 0xfffffffffffffffa,
+        Ok(t) => res == t.0,
+        Err(MoveRefusal::TooFar) => res == 0xfffffffffffffff7,
+        Err(MoveRefusal::Outside) => res == 0xfffffffffffffffa,
     }
 }
 
 fn back_right(instant: u64, span: u64, refusal: u64, moved: u64) -> bool {
     match moves::move_there_and_back(Instant(instant), Microseconds(signed(span))) {
-        Moved::To(t) => (refusal == 0) & (moved == t.0),
-        Moved::TooFar => (refusal == 9) & (moved == 0),
-        Moved::Outside => (refusal == 6) & (moved == 0),
+        Ok(t) => (refusal == 0) & (moved == t.0),
+        Err(MoveRefusal::TooFar) => (refusal == 9) & (moved == 0),
+        Err(MoveRefusal::Outside) => (refusal == 6) & (moved == 0),
     }
 }
 
 fn since_right(instant: u64, epoch: u64, refusal: u64, micros: u64) -> bool {
     match instant::since(Instant(instant), Instant(epoch)) {
-        Elapsed::Is(t) => (refusal == 0) & (signed(micros) == t.0),
-        Elapsed::Outside => (refusal == 6) & (micros == 0),
+        Some(t) => (refusal == 0) & (signed(micros) == t.0),
+        None => (refusal == 6) & (micros == 0),
     }
 }
 
-fn days_right(days: DayCount, refusal: u64, bits: u64) -> bool {
+fn days_right(days: Option<Days>, refusal: u64, bits: u64) -> bool {
     match days {
-        DayCount::Is(x) => (refusal == 0) & same(x.0, bits),
-        DayCount::Outside => (refusal == 6) & (bits == 0),
+        Some(x) => (refusal == 0) & same(x.0, bits),
+        None => (refusal == 6) & (bits == 0),
     }
 }
 
-fn angle_right(angle: Angle, refusal: u64, bits: u64) -> bool {
+fn angle_right(angle: Option<Radians>, refusal: u64, bits: u64) -> bool {
     match angle {
-        Angle::Is(x) => (refusal == 0) & same(x.0, bits),
-        Angle::Outside => (refusal == 6) & (bits == 0),
+        Some(x) => (refusal == 0) & same(x.0, bits),
+        None => (refusal == 6) & (bits == 0),
     }
 }
 
@@ -278,146 +285,65 @@ fn right(op: usize, l: Line) -> bool {
     answer_right(op, l)
 }
 
-fn tallied(t: Tallies, l: Line) -> Tallies {
-    let op = place(l.name);
-    let lines = std::num::wrapping_add_u64(t.lines, 1);
-    let mut compared = t.compared;
-    let mut differ = t.differ;
-    let mut first = t.first;
-    compared[op] = std::num::wrapping_add_u64(compared[op], 1);
-    if !right(op, l) {
-        if differ[op] == 0 {
-            first[op] = lines;
+impl Run {
+    // Counts the line, which is whole, and begins the next.
+    fn end_line(&mut self) {
+        let op = place(self.line.name);
+        let is_right = right(op, self.line);
+        self.lines = self.lines.wrapping_add(1);
+        let lines = self.lines;
+        let tally = &mut self.tallies[op];
+        tally.compared = tally.compared.wrapping_add(1);
+        if !is_right {
+            if tally.differ == 0 {
+                tally.first = lines;
+            }
+            tally.differ = tally.differ.wrapping_add(1);
         }
-        differ[op] = std::num::wrapping_add_u64(differ[op], 1);
+        self.line = no_line();
     }
-    Tallies {
-        lines,
-        compared,
-        differ,
-        first,
+
+    fn take(&mut self, byte: u8) {
+        if byte == b'\n' {
+            self.end_line();
+        } else {
+            self.line = pushed(self.line, byte);
+        }
     }
 }
 
-fn fed(r: Run, byte: u8) -> Run {
-    let line = r.line;
-    let tallies = r.tallies;
-    if byte == b'\n' {
-        return Run {
-            line: no_line(),
-            tallies: tallied(tallies, line),
-        };
-    }
-    Run {
-        line: pushed(line, byte),
-        tallies,
-    }
-}
-
-fn feed(r: Run, piece: &[u8]) -> Run {
-    let mut run = r;
-    let mut i = 0;
-    while i < piece.len() {
-        run = fed(run, piece[i]);
-        i += 1;
-    }
-    run
-}
-
-// The state after a read, and whether to go on.
-#[derive(Clone, Copy)]
-struct Turn {
-    run: Run,
-    more: bool,
-}
-
-fn read_more(rt: HostRuntime, failed: &mut bool, r: Run) -> Turn {
+// A proved loop has to end, and nothing says that the input does: no run uses up so many turns.
+fn read_all(rt: HostRuntime, failed: &mut bool, run: &mut Run) {
     let mut buffer = [0u8; 4096];
-    let n = streams::read(rt, failed, &mut buffer);
-    if n == 0 {
-        return Turn {
-            run: r,
-            more: false,
-        };
-    }
-    let run = feed(r, &buffer[..n]);
-    Turn { run, more: true }
-}
-
-// A proved loop has to end, and nothing says that the input does. So it counts its turns down, from a
-// number that no run uses up.
-fn read_all(rt: HostRuntime, failed: &mut bool, r: Run) -> Run {
-    let mut run = r;
-    let mut turns = u64::MAX;
-    while turns > 0 {
-        let t = read_more(rt, failed, run);
-        run = t.run;
-        if !t.more {
-            return run;
+    for _ in 0..u64::MAX {
+        let n = streams::read(rt, failed, &mut buffer);
+        if n == 0 {
+            return;
         }
-        turns -= 1;
+        for byte in &buffer[..n] {
+            run.take(*byte);
+        }
     }
-    run
-}
-
-fn print_counts(rt: HostRuntime, failed: &mut bool, compared: u64, differ: u64, first: u64) {
-    streams::print_decimal(rt, failed, compared);
-    streams::print(rt, failed, b" compared, ");
-    streams::print_decimal(rt, failed, differ);
-    streams::print(rt, failed, b" differ");
-    if differ > 0 {
-        streams::print(rt, failed, b", the first in line ");
-        streams::print_decimal(rt, failed, first);
-    }
-    streams::print(rt, failed, b"\n");
-}
-
-fn print_tally(rt: HostRuntime, failed: &mut bool, label: &[u8], t: Tallies, op: usize)
-    requires { op < 11 }
-{
-    let compared = t.compared;
-    let differ = t.differ;
-    let first = t.first;
-    streams::print(rt, failed, label);
-    print_counts(rt, failed, compared[op], differ[op], first[op]);
-}
-
-fn print_tallies(rt: HostRuntime, failed: &mut bool, t: Tallies) {
-    print_tally(rt, failed, b"epoch: ", t, 0);
-    print_tally(rt, failed, b"split: ", t, 1);
-    print_tally(rt, failed, b"move: ", t, 2);
-    print_tally(rt, failed, b"since: ", t, 3);
-    print_tally(rt, failed, b"minutes: ", t, 4);
-    print_tally(rt, failed, b"days: ", t, 5);
-    print_tally(rt, failed, b"jd: ", t, 6);
-    print_tally(rt, failed, b"gst: ", t, 7);
-    print_tally(rt, failed, b"twice: ", t, 8);
-    print_tally(rt, failed, b"back: ", t, 9);
-    print_tally(rt, failed, b"unreadable: ", t, 10);
 }
 
 fn main(rt: HostRuntime) {
-    let tallies = Tallies {
-        lines: 0,
-        compared: [0; 11],
-        differ: [0; 11],
-        first: [0; 11],
-    };
     let mut failed = false;
-    let run = read_all(
-        rt,
-        &mut failed,
-        Run {
-            line: no_line(),
-            tallies,
-        },
-    );
-    let line = run.line;
-    let tallies = run.tallies;
+    let none = Tally {
+        compared: 0,
+        differ: 0,
+        first: 0,
+    };
+    let mut run = Run {
+        line: no_line(),
+        lines: 0,
+        tallies: [none; 11],
+    };
+    read_all(rt, &mut failed, &mut run);
     // A last line without its newline.
-    if line.name != 0 {
-        print_tallies(rt, &mut failed, tallied(tallies, line));
-        return;
+    if run.line.name != 0 {
+        run.end_line();
     }
-    print_tallies(rt, &mut failed, tallies);
+    for (name, tally) in NAMES.iter().zip(&run.tallies) {
+        print_line(rt, &mut failed, format_args!("{name}: {tally}"));
+    }
 }

@@ -4,8 +4,10 @@
 // a pair: two lines of 69, each ended by a newline.
 #![tactic(auto)]
 
+ghost use Rattle.std.specs.Prelude.{◌≤◌};
+
 use text::{put_byte, put_bytes, put_decimal};
-use tle::{Form, Line, Reading, Record};
+use tle::{Line, Record};
 use tle_writer::write_line;
 
 // How many bytes are handed back of the room.
@@ -22,27 +24,14 @@ fn print_room(rt: HostRuntime, failed: &mut bool, why: u8, handed: u64, room: &[
     let p = put_byte(&mut out, p, b' ');
     let p = put_bytes(&mut out, p, room);
     let n = put_byte(&mut out, p, b'\n');
-    if n <= 128 {
-        streams::print(rt, failed, &out[0..n]);
-    }
+    streams::print_room(rt, failed, &out, n);
 }
 
-fn print_longer(rt: HostRuntime, failed: &mut bool, r: Record, which: Line) {
-    let mut room = [b'#'; 80];
-    let mut why = 255;
-    let handed = written(r, which, &mut room, &mut why);
-    print_room(rt, failed, why, handed, &room);
-}
-
-fn print_exact(rt: HostRuntime, failed: &mut bool, r: Record, which: Line) {
-    let mut room = [b'#'; 69];
-    let mut why = 255;
-    let handed = written(r, which, &mut room, &mut why);
-    print_room(rt, failed, why, handed, &room);
-}
-
-fn print_short(rt: HostRuntime, failed: &mut bool, r: Record, which: Line) {
-    let mut room = [b'#'; 68];
+// The line in a room of N bytes.
+fn print_written<const N: usize>(rt: HostRuntime, failed: &mut bool, r: Record, which: Line)
+    requires { N ≤ 80 }
+{
+    let mut room = [b'#'; N];
     let mut why = 255;
     let handed = written(r, which, &mut room, &mut why);
     print_room(rt, failed, why, handed, &room);
@@ -53,19 +42,19 @@ fn print_on(rt: HostRuntime, failed: &mut bool, r: Record, which: Line, year: u6
     let mut other = r;
     other.year = year;
     other.day = day;
-    print_longer(rt, failed, other, which);
+    print_written::<80>(rt, failed, other, which);
 }
 
 fn print_line(rt: HostRuntime, failed: &mut bool, r: Record, which: Line) {
-    print_longer(rt, failed, r, which);
-    print_exact(rt, failed, r, which);
-    print_short(rt, failed, r, which);
+    print_written::<80>(rt, failed, r, which);
+    print_written::<69>(rt, failed, r, which);
+    print_written::<68>(rt, failed, r, which);
     let mut beyond = r;
     beyond.inclination = 1800001;
-    print_longer(rt, failed, beyond, which);
+    print_written::<80>(rt, failed, beyond, which);
     let mut beyond = r;
     beyond.number = 340000;
-    print_longer(rt, failed, beyond, which);
+    print_written::<80>(rt, failed, beyond, which);
     print_on(rt, failed, r, which, 2001, 36600000000);
     print_on(rt, failed, r, which, 2055, 36699999999);
     print_on(rt, failed, r, which, 2000, 36700000000);
@@ -73,24 +62,23 @@ fn print_line(rt: HostRuntime, failed: &mut bool, r: Record, which: Line) {
 
 fn print_pair(rt: HostRuntime, failed: &mut bool, line1: &[u8], line2: &[u8]) {
     let form = tle::read_form(line1, line2);
-    let Form::Fields(fields) = form else {
+    let Ok(fields) = form else {
         streams::print(rt, failed, b"refused\n");
         return;
     };
     match tle::read_meaning(fields) {
-        Reading::Record(r) => {
+        Ok(r) => {
             print_line(rt, failed, r, Line::One);
             print_line(rt, failed, r, Line::Two);
         }
-        Reading::Refused(_) => streams::print(rt, failed, b"refused\n"),
+        Err(_) => streams::print(rt, failed, b"refused\n"),
     }
 }
 
 fn print_pairs(rt: HostRuntime, failed: &mut bool, s: &[u8]) {
-    let mut at = 0;
-    while s.len() - at >= 140 {
-        print_pair(rt, failed, &s[at..at + 69], &s[at + 70..at + 139]);
-        at += 140;
+    let (pairs, _) = s.as_chunks::<140>();
+    for pair in pairs {
+        print_pair(rt, failed, &pair[..69], &pair[70..139]);
     }
 }
 

@@ -5,4 +5,4 @@ pub mod Floats
 pub mod Lengths
 pub mod Feeding
 pub mod Whole
-pub mod Gone
+pub mod Newline

@@ -1,14 +1,15 @@
 -- Pieces of text put one after the other. `both` composes two; every text is a chain of them.
 use Prim.Native.Nat.{ℕ, suc, ◌+◌, ◌-◌, ◌<◌, ◌≤◌, min}
 use mathlib.Core.Path.{◌≡◌, refl, sym, ap, ◌∙◌, subst}
-use mathlib.Core.List.{List, [], ◌∷◌, ◌++◌}
+use mathlib.Core.List.{List, [], ◌∷◌, ◌++◌, append_assoc}
 use mathlib.Core.Bool.{Bool, true, false}
 use native.Mathlib.Omega.{arith}
-use native.Mathlib.Numerals.{add-one}
 use native.Mathlib.Nat.{zero-add, add-zero, add-suc, suc-add, min-eq_left, min-eq_right}
 use lib.Dec.{leb}
-use lib.ListN.{length, drop, take, get_or, set, length-append}
-use lib.Seq.{sets, length-sets, set_out, sets-eq, take-suc, take_all}
+use lib.ListN.{length, drop, take, set, length-append}
+use borrow.Rule.Slice.PartMut.{put_mid}
+use Rattle.std.proofs.lemmas.List.{length-take-le, take-append-drop, length-drop, drop-drop}
+use lib.Seq.{sets, length-sets, set_out, sets-eq}
 use borrow.Author.Tests.{leb-true, leb-false, le-leb, lt-leb}
 use Rattle.text.specs.Output.{Put, most, fronted}
 
@@ -35,9 +36,6 @@ stopped s o i h = stopped_by s o i (leb i most) refl h
 pub none : {o : List ℕ} {a : ℕ} → length o ≤ most → a ≤ most → Put o a [] o a
 none h g = record { room = h; counted = omega arith; stored = refl }
 
-pub past : {o : List ℕ} {a : ℕ} (b r : ℕ) → length o ≤ most → length o ≤ a → r ≡ min (a + 1) most → Put o a (b ∷ []) o r
-past {o} {a} b r h g e = record { room = h; counted = e; stored = sym (set_out o a b g) }
-
 pub both : {o o' o'' s t : List ℕ} {a b d : ℕ} → Put o a s o' b → Put o' b t o'' d → Put o a (s ++ t) o'' d
 both {o} {o'} {o''} {s} {t} {a} {b} {d} p q = record {
   room = p.room;
@@ -46,13 +44,39 @@ both {o} {o'} {o''} {s} {t} {a} {b} {d} p q = record {
       (stopped t (sets o a s) (a + length s) (rw length-sets p.room) ∙ sets_more s t o a);
 }
 
--- one byte more of a text
-pub more : {o o' o'' : List ℕ} {a b d : ℕ} (s : List ℕ) (i : ℕ) → i < length s
-    → Put o a (take i s) o' b → Put o' b (get_or s i 0 ∷ []) o'' d → Put o a (take (i + 1) s) o'' d
-more s i h p q = rw (add-one, take-suc s i 0 h) (both p q)
+-- what lies past the end of a text, or of the buffer, is not stored
+past_either : (t o : List ℕ) (i : ℕ) (b : Bool) → leb (length o) i ≡ b → (i < length o → length t ≤ 0) → sets o i t ≡ o
+past_either t o i true e h = beyond t o i (leb-true (length o) i e)
+past_either [] o i false e h = refl
+past_either (b ∷ t) o i false e h = let g = leb-false (length o) i e in absurd (omega (arith, h g))
 
-pub whole : {o o' : List ℕ} {a b : ℕ} (s : List ℕ) (i : ℕ) → length s ≤ i → Put o a (take i s) o' b → Put o a s o' b
-whole s i h p = rw (take_all i s h) at p
+-- a text copied over what the buffer has of its places
+copied_at : (s o : List ℕ) (a n : ℕ) → a ≤ length o → n ≡ min (length s) (length o - a) → take a o ++ (take n s ++ drop n (drop a o)) ≡ sets o a s
+copied_at s o a n h e =
+    let l : length (take n s) ≡ n = length-take-le n s (omega arith) in
+    let r : length (sets o a (take n s)) ≡ length o = length-sets o a (take n s) in
+    let past : sets (sets o a (take n s)) (a + length (take n s)) (drop n s) ≡ sets o a (take n s) =
+    past_either (drop n s) (sets o a (take n s)) (a + length (take n s)) _ refl (λ g. omega (arith, length-drop n s))
+    in
+    let whole : sets o a (take n s ++ drop n s) ≡ sets o a (take n s) = sym (sets_more (take n s) (drop n s) o a) ∙ past in
+    let k : a + length (take n s) ≡ a + n = ap (λ m. a + m) l in
+    let split : take n s ++ drop n s ≡ s = take-append-drop n s in
+    let front : sets o a (take n s) ≡ take a o ++ take n s ++ drop (a + n) o = rw (← k) (sets-eq (take n s) o a (omega arith)) in
+    rw (drop-drop, ← append_assoc) (sym front ∙ sym whole ∙ ap (λ (t : List ℕ). sets o a t) split)
+
+copied_by : (s o : List ℕ) (a f n : ℕ) (b : Bool) → leb a (length o) ≡ b → f ≡ min a (length o) → n ≡ min (length s) (length o - f) → take f o ++ (take n s ++ drop n (drop f o)) ≡ sets o a s
+copied_by s o a f n true e ef en =
+    let g = leb-true a (length o) e in
+    let h : f ≡ a = omega arith in
+    rw h (copied_at s o a n g (omega arith))
+copied_by s o a f n false e ef en =
+    let g = leb-false a (length o) e in
+    let h : f ≡ length o = omega arith in
+    let z : n ≡ 0 = omega arith in
+    rw (z, take-append-drop) (sym (beyond s o a (omega arith)))
+
+pub copied : (s o : List ℕ) (a f n : ℕ) → f ≡ min a (length o) → n ≡ min (length s) (length o - f) → put_mid f (f + n - f) o (take n s) ≡ sets o a s
+copied s o a f n ef en = let k : f + n - f ≡ n = omega arith in rw k (copied_by s o a f n (leb a (length o)) refl ef en)
 
 -- the same text in other words
 pub same : {o o' s t : List ℕ} {a b : ℕ} → s ≡ t → Put o a s o' b → Put o a t o' b

@@ -1,22 +1,19 @@
 -- The loops that spell a number from its last place: in decimal without leading zeros, and in fixed places.
 use Prim.Native.Nat.{ℕ, zero, suc, ◌+◌, ◌-◌, ◌/◌, ◌%◌, ◌^◌, ◌<◌, ◌≤◌}
-use mathlib.Core.Path.{◌≡◌, ◌∙◌, subst}
-use mathlib.Core.List.{List, ◌∷◌, ◌++◌, append-nil}
+use mathlib.Core.Path.{◌≡◌, ◌∙◌}
+use mathlib.Core.List.{List, ◌∷◌, ◌++◌}
 use native.Mathlib.Omega.{arith}
 use native.Mathlib.Nat.{pow-suc}
-use lib.ListN.{length, take, drop, length-drop, set, length-set, drop_of_length-le}
-use lib.Seq.{take_all, drop-cons, append_snoc, get_or-set_same, drop-set-lt}
+use lib.ListN.{length, drop, set, length-set}
+use lib.Seq.{drop-cons, append_snoc, get_or-set_same, drop-set-lt}
 use borrow.Author.Tests.{le-ltb, lt-ltb}
-use Rattle.text.specs.Output.{Put, spell, places, glyph}
+use Rattle.text.specs.Output.{spell, places, glyph}
 
 at_set : (j b : ℕ) (d : List ℕ) → j < length d → drop j (set d j b) ≡ b ∷ drop (suc j) d
 at_set j b d h =
     drop-cons (set d j b) j 0 (rw length-set h) ∙ rw (get_or-set_same d j b 0 h, drop-set-lt (suc j) d j b (omega arith))
 
--- spell w n ++ drop w d is the text so far: the digits left to do, and those done
-pub start : (w n : ℕ) (d : List ℕ) → length d ≤ w → spell w n ++ drop w d ≡ spell w n
-start w n d h = rw (drop_of_length-le d h) (append-nil (spell w n))
-
+-- spell i m ++ drop i d is the text so far: the digits left to do, and those done
 pub turn : (i m : ℕ) (d : List ℕ) → 1 ≤ i → i ≤ length d → 9 < m → spell i m ++ drop i d ≡ spell (i - 1) (m / 10) ++ drop (i - 1) (set d (i - 1) (48 + m % 10))
 unfolding spell
 turn zero m d p h g = absurd (omega arith)
@@ -39,21 +36,12 @@ fewer (suc (suc j)) m g h =
     let e : suc (suc j) - 1 ≡ suc j = omega arith in
     (omega arith, rw e (omega (arith, rw pow-suc at h)))
 
--- the bytes from i to the end of d
-pub tail_is : {o o' t : List ℕ} {a r : ℕ} (i : ℕ) (d : List ℕ) → length d ≡ 20 → drop i d ≡ t → Put o a (take (20 - i) (drop i d)) o' r → Put o a t o' r
-tail_is {o} {o'} {t} {a} {r} i d h e p =
-    let g : take (20 - i) (drop i d) ≡ t = take_all (20 - i) (drop i d) (simp length-drop (omega arith)) ∙ e in
-    subst (λ (x : List ℕ). Put o a x o' r) g p
-
 pub glyph_turn : (base i m : ℕ) (d : List ℕ) (b : ℕ) → b ≡ glyph (m % base) → 0 < i → i ≤ length d → places base i m ++ drop i d ≡ places base (i - 1) (m / base) ++ drop (i - 1) (set d (i - 1) b)
 unfolding places
 glyph_turn base zero m d b q p h = absurd (omega arith)
 glyph_turn base (suc j) m d b q p h =
     let e : suc j - 1 ≡ j = omega arith in
     rw (e, at_set j b d (omega arith), q) (append_snoc (places base j (m / base)) (glyph (m % base)) (drop (suc j) d))
-
-pub glyph_start : (base w n : ℕ) (d : List ℕ) → length d ≤ w → places base w n ++ drop w d ≡ places base w n
-glyph_start base w n d h = rw (drop_of_length-le d h) (append-nil (places base w n))
 
 pub glyph_end : (base i m : ℕ) (d t : List ℕ) → i ≤ 0 → places base i m ++ drop i d ≡ t → d ≡ t
 unfolding places

@@ -1,11 +1,12 @@
 // Lines from an input that comes in pieces of any size. A line is ended by a newline or by the end of
 // the input. `Lines` holds the first two by value, and of each its first 70 bytes: enough to tell a
 // line of 69 from a longer one. `gather` puts lines of any number into a lent buffer, one at a time.
-ghost use Rattle.std.specs.Prelude.{◌≡◌, drop};
+ghost use Rattle.std.specs.Prelude.{◌≡◌, ◌==◌, drop, position};
 ghost use Rattle.text.specs.Input.{started, pushed, stepped, fed, Gathering};
 
-use crate::output::put_byte;
+use crate::output::put_bytes;
 
+// A buffer with its length beside it: the definitions of specs/Input speak of both, and it is copied.
 #[derive(Clone, Copy)]
 pub struct Line {
     pub bytes: [u8; 70],
@@ -94,10 +95,8 @@ impl Lines {
         ensures { result ≡ fed self piece.now }
     {
         let mut lines = self;
-        let mut i = 0;
-        while i < piece.len() {
-            lines = lines.step(piece[i]);
-            i += 1;
+        for byte in piece {
+            lines = lines.step(*byte);
         }
         lines
     }
@@ -112,27 +111,28 @@ pub struct Gathered {
     pub ended: bool,
 }
 
+// Where the first newline of a piece stands.
+fn newline_of(piece: &[u8]) -> Option<usize>
+    ensures { result ≡ position (λ byte. byte == 10) piece.now }
+{
+    piece.iter().position(|byte| *byte == b'\n')
+}
+
 // Adds to a line that has `size` bytes so far the bytes of a piece from an index on, up to a newline.
 pub fn gather(line: &mut [u8], size: usize, piece: &[u8], from: usize) -> Gathered
     ensures { Gathering line.old size (drop from piece.now) from line.new result }
 {
-    let mut size = size;
-    let mut i = from;
-    while i < piece.len() {
-        let byte = piece[i];
-        if byte == b'\n' {
-            return Gathered {
-                size,
-                next: i + 1,
-                ended: true,
-            };
-        }
-        size = put_byte(line, size, byte);
-        i += 1;
-    }
-    Gathered {
-        size,
-        next: i,
-        ended: false,
+    let rest = &piece[from.min(piece.len())..];
+    match newline_of(rest) {
+        Some(n) => Gathered {
+            size: put_bytes(line, size, &rest[..n]),
+            next: from + n + 1,
+            ended: true,
+        },
+        None => Gathered {
+            size: put_bytes(line, size, rest),
+            next: from + rest.len(),
+            ended: false,
+        },
     }
 }

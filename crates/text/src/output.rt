@@ -24,13 +24,10 @@ pub fn put_byte(out: &mut [u8], at: usize, byte: u8) -> usize
 pub fn put_bytes(out: &mut [u8], at: usize, bytes: &[u8]) -> usize
     ensures { Put out.old at bytes.now out.new result }
 {
-    let mut next = at;
-    let mut i = 0;
-    while i < bytes.len() {
-        next = put_byte(out, next, bytes[i]);
-        i += 1;
-    }
-    next
+    let from = at.min(out.len());
+    let n = bytes.len().min(out.len() - from);
+    out[from..from + n].copy_from_slice(&bytes[..n]);
+    at.saturating_add(bytes.len())
 }
 
 // Puts the number's digits at the end of the buffer and returns where they begin.
@@ -85,29 +82,27 @@ fn spell_places(n: u64, base: u64, digits: &mut [u8])
     ensures { digits.new ≡ places base (length digits.old) n }
 {
     let mut rest = n;
-    let mut i = digits.len();
-    while 0 < i {
-        i -= 1;
+    for i in (0..digits.len()).rev() {
         digits[i] = digit(rest % base);
         rest = rest / base;
     }
+}
+
+// The last N places of the number in a base, with leading zeros.
+fn put_places<const N: usize>(out: &mut [u8], at: usize, base: u64, n: u64) -> usize
+    requires { (0 < base) × (base ≤ 16) × (N ≤ 16) }
+    ensures { Put out.old at (places base N n) out.new result }
+{
+    let mut digits = [0u8; N];
+    spell_places(n, base, &mut digits);
+    put_bytes(out, at, &digits)
 }
 
 // The last five decimal places, with leading zeros.
 pub fn put_five_digits(out: &mut [u8], at: usize, n: u64) -> usize
     ensures { Put out.old at (places 10 5 n) out.new result }
 {
-    let mut digits = [0u8; 5];
-    spell_places(n, 10, &mut digits);
-    put_bytes(out, at, &digits)
-}
-
-fn put_hex(out: &mut [u8], at: usize, n: u64) -> usize
-    ensures { Put out.old at (places 16 16 n) out.new result }
-{
-    let mut digits = [0u8; 16];
-    spell_places(n, 16, &mut digits);
-    put_bytes(out, at, &digits)
+    put_places::<5>(out, at, 10, n)
 }
 
 // The bit pattern of a number that is no NaN.
@@ -116,7 +111,7 @@ fn put_number_pattern(out: &mut [u8], at: usize, x: f64) -> usize
     ensures { Put out.old at (pattern x) out.new result }
 {
     let bits = f64::to_bits(x);
-    put_hex(out, at, bits)
+    put_places::<16>(out, at, 16, bits)
 }
 
 // The bit pattern as sixteen hexadecimal digits. All NaNs count as one.

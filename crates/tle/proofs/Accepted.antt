@@ -20,10 +20,7 @@ use Rattle.tle.specs.declared.Line.TheVariants.{One}
 use Rattle.tle.specs.declared.Field.TheVariants.{Day, Inclination, Node, Perigee, Anomaly, Motion}
 use Rattle.tle.specs.declared.Refusal.{Refusal}
 use Rattle.tle.specs.declared.Refusal.TheVariants.{Range}
-use Rattle.tle.specs.declared.Verdict.{Verdict}
-use Rattle.tle.specs.declared.Verdict.TheVariants as verdict
-use Rattle.tle.specs.declared.Reading.{Reading}
-use Rattle.tle.specs.declared.Reading.TheVariants as reading
+use Rattle.std.specs.Prelude.{Err, Ok, Result}
 use Rattle.tle.proofs.Steps.{field_below}
 use Rattle.tle.proofs.Catalogue.{number_below}
 use Rattle.tle.proofs.Judged.{lawful, pair}
@@ -65,7 +62,7 @@ below : (at w : ℕ) (line : List ℕ) (n : ℕ) → n ≡ 10 ^ w → ltb (field
 below at w line n e = lt-ltb (field at w line) n (omega (arith, field_below at w line))
 
 -- the fields of lawful lines are inside the layout
-in_layout_lem : (line1 line2 : List ℕ) → pair_of line1 line2 ≡ verdict.Lawful → in_layout (fields_of line1 line2) ≡ true
+in_layout_lem : (line1 line2 : List ℕ) → pair_of line1 line2 ≡ Ok tt → in_layout (fields_of line1 line2) ≡ true
 unfolding in_layout fields_of ndot_at motion_at
 in_layout_lem line1 line2 e =
     let first = lawful One layout1 line1 (pair line1 line2 e).0 in
@@ -91,38 +88,38 @@ in_places_lem line1 line2 =
     lt-ltb (field 20 3 line1 * 100000000 + field 24 8 line1) 100000000000 h
     and degrees 8 line2 and degrees 17 line2 and degrees 34 line2 and degrees 43 line2
 
-pub in_form_lem : (line1 line2 : List ℕ) → pair_of line1 line2 ≡ verdict.Lawful → in_form (fields_of line1 line2) ≡ true
+pub in_form_lem : (line1 line2 : List ℕ) → pair_of line1 line2 ≡ Ok tt → in_form (fields_of line1 line2) ≡ true
 unfolding in_form
 in_form_lem line1 line2 e = in_layout_lem line1 line2 e and in_places_lem line1 line2
 
 -- a record that passes its ranges
-abbrev record_or : Record → Reading → Record
-record_or d (reading.Record r) = r
-record_or d (reading.Refused why) = d
+abbrev record_or : Record → Result Record Refusal → Record
+record_or d (Ok r) = r
+record_or d (Err why) = d
 
-pub within : (test : Bool) (why : Refusal) (next : Reading) (r : Record) → unless test (reading.Refused why) next ≡ reading.Record r → (test ≡ true) × (next ≡ reading.Record r)
+pub within : (test : Bool) (why : Refusal) (next : Result Record Refusal) (r : Record) → unless test (Err why) next ≡ Ok r → (test ≡ true) × (next ≡ Ok r)
 within true why next r e = (refl, e)
 within false why next r e = let z : ◌≡◌ {A = ℕ} 0 1 = cc in absurd (omega arith)
 
-pub in_ranges_lem : (s r : Record) → ranges_of s ≡ reading.Record r → (in_ranges s ≡ true) × (s ≡ r)
+pub in_ranges_lem : (s r : Record) → ranges_of s ≡ Ok r → (in_ranges s ≡ true) × (s ≡ r)
 unfolding ranges_of in_ranges
 in_ranges_lem s r e =
-    let motion = unless (motion_in_range s.motion) (reading.Refused (Range Motion)) (reading.Record s) in
-    let anomaly = unless (angle_in_range s.anomaly) (reading.Refused (Range Anomaly)) motion in
-    let perigee = unless (angle_in_range s.perigee) (reading.Refused (Range Perigee)) anomaly in
-    let node = unless (angle_in_range s.node) (reading.Refused (Range Node)) perigee in
-    let inclination = unless (inclination_in_range s.inclination) (reading.Refused (Range Inclination)) node in
+    let motion = unless (motion_in_range s.motion) (Err (Range Motion)) (Ok s) in
+    let anomaly = unless (angle_in_range s.anomaly) (Err (Range Anomaly)) motion in
+    let perigee = unless (angle_in_range s.perigee) (Err (Range Perigee)) anomaly in
+    let node = unless (angle_in_range s.node) (Err (Range Node)) perigee in
+    let inclination = unless (inclination_in_range s.inclination) (Err (Range Inclination)) node in
     let d = within (day_in_range s.year s.day) (Range Day) inclination r e in
     let i = within (inclination_in_range s.inclination) (Range Inclination) node r d.1 in
     let n = within (angle_in_range s.node) (Range Node) perigee r i.1 in
     let p = within (angle_in_range s.perigee) (Range Perigee) anomaly r n.1 in
     let a = within (angle_in_range s.anomaly) (Range Anomaly) motion r p.1 in
-    let m = within (motion_in_range s.motion) (Range Motion) (reading.Record s) r a.1 in
+    let m = within (motion_in_range s.motion) (Range Motion) (Ok s) r a.1 in
     (d.0 and i.0 and n.0 and p.0 and a.0 and m.0, ap (record_or s) m.1)
 
-from_form : (v : Verdict) (s r : Record) → ranged (formed v s) ≡ reading.Record r → (v ≡ verdict.Lawful) × (ranges_of s ≡ reading.Record r)
-from_form verdict.Lawful s r e = (refl, e)
-from_form (verdict.Refused why) s r e = let z : ◌≡◌ {A = ℕ} 0 1 = cc in absurd (omega arith)
+from_form : (v : Result (Unit {0}) Refusal) (s r : Record) → ranged (formed v s) ≡ Ok r → (v ≡ Ok tt) × (ranges_of s ≡ Ok r)
+from_form (Ok tt) s r e = (refl, e)
+from_form (Err why) s r e = let z : ◌≡◌ {A = ℕ} 0 1 = cc in absurd (omega arith)
 
 pub accepted_are_legal : AcceptedAreLegal
 unfolding read_of form_of legal

@@ -10,7 +10,7 @@ use Rattle.tle.specs.Read.{verdict_of, pair_of, form_of, read_of}
 use Rattle.tle.specs.Claims.{OtherFirstPlaces}
 use Rattle.tle.specs.declared.Line.TheVariants.{One, Two}
 use Rattle.tle.specs.declared.Refusal.TheVariants.{Column}
-use Rattle.tle.specs.declared.Verdict.TheVariants as verdict
+use Rattle.std.specs.Prelude.{Err}
 
 pub fits_N : (a : Bool) (b : ℕ) → fits 78 a b ≡ opens_number b
 fits_N a b = simp (and-false, or-false)
@@ -24,11 +24,11 @@ module _ (b : ℕ) (rest : List ℕ) (long : length rest ≡ 66) (o : opens_numb
   unfolding agreed
   stops2 = rw (fits_N true b ∙ o)
 
-  refused1 : verdict_of One layout1 (bytes "1 " ++ (b ∷ rest)) ≡ verdict.Refused (Column One 3)
+  refused1 : verdict_of One layout1 (bytes "1 " ++ (b ∷ rest)) ≡ Err (Column One 3)
   unfolding verdict_of
   refused1 = rw (long, stops1)
 
-  refused2 : verdict_of Two layout2 (bytes "2 " ++ (b ∷ rest)) ≡ verdict.Refused (Column Two 3)
+  refused2 : verdict_of Two layout2 (bytes "2 " ++ (b ∷ rest)) ≡ Err (Column Two 3)
   unfolding verdict_of
   refused2 = rw (long, stops2)
 

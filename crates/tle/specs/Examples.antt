@@ -1,6 +1,6 @@
 -- 002's example: its two lines, and the record that reading them gives; catalogue numbers with letters; last days of years; fields that
 -- are well formed and out of range. Document 01's cases at the edges, and pairs with such days, are in crate edge_cases.
-use Rattle.std.specs.Prelude.{ℕ, ◌≡◌, refl, List, [], ◌∷◌, map, true, false, pos, negsuc}
+use Rattle.std.specs.Prelude.{ℕ, ◌≡◌, refl, List, [], ◌∷◌, map, true, false, pos, negsuc, Err, Ok}
 use Rattle.instant.specs.Calendar.{days_in, last_day, day_in_range}
 use Rattle.text.specs.Output.{bytes}
 use Rattle.columns.specs.Layout.{agreed}
@@ -15,7 +15,6 @@ use Rattle.tle.specs.declared.Designator.TheVariants.{Piece}
 use Rattle.tle.specs.declared.Record.{Record}
 use Rattle.tle.specs.declared.Field.TheVariants.{Day}
 use Rattle.tle.specs.declared.Refusal.TheVariants.{Range, NoForm}
-use Rattle.tle.specs.declared.Reading.TheVariants as reading
 
 abbrev pub line1 : List ℕ
 line1 = bytes "1 00005U 58002B   00179.78495062  .00000023  00000-0  28098-4 0  4753"
@@ -54,7 +53,7 @@ stamped year day = varied 5 year day
 abbrev pub vanguard : Record
 vanguard = numbered 5
 
-pub example : read_of line1 line2 ≡ reading.Record vanguard
+pub example : read_of line1 line2 ≡ Ok vanguard
 unfolding read_of form_of pair_of verdict_of agreed sum fields_of ranges_of day_in_range last_day days_in number_at catalogue_of first_of position class_of designator_at year_of day_at ndot_at scaled_at degrees_at motion_at value_on digit_of signed minus
 example = refl
 
@@ -88,10 +87,10 @@ pub well_formed : in_form (stamped 2001 36650000000) ≡ true
 unfolding in_form in_layout in_places designator_fits scaled_fits
 well_formed = refl
 
-pub impossible : meaning_of (given (stamped 2001 36650000000)) ≡ reading.Refused (Range Day)
+pub impossible : meaning_of (given (stamped 2001 36650000000)) ≡ Err (Range Day)
 unfolding meaning_of in_form in_layout in_places designator_fits scaled_fits ranges_of day_in_range last_day days_in
 impossible = refl
 
-pub sixteen_first : meaning_of (given (varied 340000 2001 36650000000)) ≡ reading.Refused NoForm
+pub sixteen_first : meaning_of (given (varied 340000 2001 36650000000)) ≡ Err NoForm
 unfolding meaning_of in_form in_layout in_places designator_fits scaled_fits
 sixteen_first = refl

@@ -1,6 +1,6 @@
 -- Document 01, "The two lines" and "Refusal numbers" 1 to 6: what reading two lines gives. Document 02, wish 9: first their form, then its
 -- meaning.
-use Rattle.std.specs.Prelude.{ℕ, ◌+◌, ◌*◌, ◌%◌, List, Bool, true, cond, eqb, ltb, leb, ℤ, pos, length, take, drop, get_or}
+use Rattle.std.specs.Prelude.{ℕ, ◌+◌, ◌*◌, ◌%◌, List, Bool, true, cond, eqb, ltb, leb, ℤ, pos, length, take, drop, get_or, Err, Ok, Result}
 use Prim.Native.Char.{code}
 use Rattle.columns.specs.Layout.{agreed, is_blank, layout1, layout2}
 use Rattle.columns.specs.Sum.{digit_of, sum}
@@ -20,12 +20,6 @@ use Rattle.tle.specs.declared.Line.TheVariants.{One, Two}
 use Rattle.tle.specs.declared.Field.TheVariants.{Day, Inclination, Node, Perigee, Anomaly, Motion}
 use Rattle.tle.specs.declared.Refusal.{Refusal}
 use Rattle.tle.specs.declared.Refusal.TheVariants.{Length, Start, Column, Checksum, Numbers, Range, NoForm}
-use Rattle.tle.specs.declared.Verdict.{Verdict}
-use Rattle.tle.specs.declared.Verdict.TheVariants as verdict
-use Rattle.tle.specs.declared.Form.{Form}
-use Rattle.tle.specs.declared.Form.TheVariants as form
-use Rattle.tle.specs.declared.Reading.{Reading}
-use Rattle.tle.specs.declared.Reading.TheVariants as reading
 
 -- the answer where a test fails, and else what comes next
 abbrev pub unless : {A : Type 0} → Bool → A → A → A
@@ -36,28 +30,28 @@ abbrev pub checksum_of : List ℕ → ℕ
 checksum_of line = sum (take 68 line) % 10
 
 -- a line by its layout: refusals 1 to 4
-unfoldable pub verdict_of : Line → List ℕ → List ℕ → Verdict
+unfoldable pub verdict_of : Line → List ℕ → List ℕ → Result (Unit {0}) Refusal
 verdict_of which layout line =
-    unless (eqb (length line) 69) (verdict.Refused (Length which))
-    (unless (ltb 0 (agreed layout true line)) (verdict.Refused (Start which))
-    (unless (eqb (agreed layout true line) 69) (verdict.Refused (Column which (agreed layout true line + 1)))
-    (unless (eqb (checksum_of line) (digit_of (get_or line 68 0))) (verdict.Refused (Checksum which)) verdict.Lawful)))
+    unless (eqb (length line) 69) (Err (Length which))
+    (unless (ltb 0 (agreed layout true line)) (Err (Start which))
+    (unless (eqb (agreed layout true line) 69) (Err (Column which (agreed layout true line + 1)))
+    (unless (eqb (checksum_of line) (digit_of (get_or line 68 0))) (Err (Checksum which)) (Ok tt))))
 
 -- the catalogue number of a line, in columns 3 to 7
 unfoldable pub number_at : List ℕ → ℕ
 number_at line = catalogue_of (take 5 (drop 2 line))
 
 -- a second verdict, where the first is lawful
-abbrev pub then : Verdict → Verdict → Verdict
-then verdict.Lawful next = next
-then (verdict.Refused r) next = verdict.Refused r
+abbrev pub then : Result (Unit {0}) Refusal → Result (Unit {0}) Refusal → Result (Unit {0}) Refusal
+then (Ok tt) next = next
+then (Err r) next = Err r
 
 -- line 1 goes through 1 to 4, then line 2, then 5
-unfoldable pub pair_of : List ℕ → List ℕ → Verdict
+unfoldable pub pair_of : List ℕ → List ℕ → Result (Unit {0}) Refusal
 pair_of line1 line2 =
     then (verdict_of One layout1 line1)
     (then (verdict_of Two layout2 line2)
-    (unless (eqb (number_at line1) (number_at line2)) (verdict.Refused Numbers) verdict.Lawful))
+    (unless (eqb (number_at line1) (number_at line2)) (Err Numbers) (Ok tt)))
 
 -- U, C or S
 unfoldable pub class_of : ℕ → Class
@@ -127,9 +121,9 @@ fields_of line1 line2 = record {
 }
 
 -- a verdict on two lines, with their fields, which an accepted form yields
-abbrev pub formed : Verdict → Record → Form
-formed verdict.Lawful r = form.Fields (record { 0 = r; 1 = true })
-formed (verdict.Refused why) r = form.Refused why
+abbrev pub formed : Result (Unit {0}) Refusal → Record → Result Fields Refusal
+formed (Ok tt) r = Ok (record { 0 = r; 1 = true })
+formed (Err why) r = Err why
 
 -- fields, whoever gives them: whether an accepted form yields them is judged (`FormsExactly` of specs/Claims of crate `tle_writer`). Those
 -- of a form are no other (`FormsYield` of specs/Claims)
@@ -137,38 +131,38 @@ abbrev pub given : Record → Fields
 given r = record { 0 = r; 1 = in_form r }
 
 -- the form of two lines: refusals 1 to 5, or the fields
-unfoldable pub form_of : List ℕ → List ℕ → Form
+unfoldable pub form_of : List ℕ → List ℕ → Result Fields Refusal
 form_of line1 line2 = formed (pair_of line1 line2) (fields_of line1 line2)
 
 -- refusal 6: the first field out of its range, in column order
-unfoldable pub ranges_of : Record → Reading
+unfoldable pub ranges_of : Record → Result Record Refusal
 ranges_of r =
-    unless (day_in_range r.year r.day) (reading.Refused (Range Day))
-    (unless (inclination_in_range r.inclination) (reading.Refused (Range Inclination))
-    (unless (angle_in_range r.node) (reading.Refused (Range Node))
-    (unless (angle_in_range r.perigee) (reading.Refused (Range Perigee))
-    (unless (angle_in_range r.anomaly) (reading.Refused (Range Anomaly))
-    (unless (motion_in_range r.motion) (reading.Refused (Range Motion)) (reading.Record r))))))
+    unless (day_in_range r.year r.day) (Err (Range Day))
+    (unless (inclination_in_range r.inclination) (Err (Range Inclination))
+    (unless (angle_in_range r.node) (Err (Range Node))
+    (unless (angle_in_range r.perigee) (Err (Range Perigee))
+    (unless (angle_in_range r.anomaly) (Err (Range Anomaly))
+    (unless (motion_in_range r.motion) (Err (Range Motion)) (Ok r))))))
 
 -- the meaning of fields: 16 where no accepted form yields them, then 6, or the record
-unfoldable pub meaning_of : Fields → Reading
-meaning_of f = unless f.1 (reading.Refused NoForm) (ranges_of f.0)
+unfoldable pub meaning_of : Fields → Result Record Refusal
+meaning_of f = unless f.1 (Err NoForm) (ranges_of f.0)
 
 -- the refusal of a form that is refused; of fields, which are not, it counts as 16
-abbrev pub refusal_in : Form → Refusal
-refusal_in (form.Fields f) = NoForm
-refusal_in (form.Refused why) = why
+abbrev pub refusal_in : Result Fields Refusal → Refusal
+refusal_in (Ok f) = NoForm
+refusal_in (Err why) = why
 
 -- what the two operations give, one after the other: the form's refusal, or the meaning of its fields
-abbrev pub meant : Form → Reading
-meant (form.Fields f) = meaning_of f
-meant (form.Refused why) = reading.Refused why
+abbrev pub meant : Result Fields Refusal → Result Record Refusal
+meant (Ok f) = meaning_of f
+meant (Err why) = Err why
 
 -- a form's refusal, or 6, or the record
-abbrev pub ranged : Form → Reading
-ranged (form.Fields f) = ranges_of f.0
-ranged (form.Refused why) = reading.Refused why
+abbrev pub ranged : Result Fields Refusal → Result Record Refusal
+ranged (Ok f) = ranges_of f.0
+ranged (Err why) = Err why
 
 -- reading as a whole: refusals 1 to 5, then 6. The two operations give the same (`FormThenMeaning` of specs/Claims)
-unfoldable pub read_of : List ℕ → List ℕ → Reading
+unfoldable pub read_of : List ℕ → List ℕ → Result Record Refusal
 read_of line1 line2 = ranged (form_of line1 line2)

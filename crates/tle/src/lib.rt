@@ -3,10 +3,10 @@
 
 ghost use Rattle.std.specs.Prelude.{◌≡◌};
 ghost use Rattle.instant.specs.Calendar.{epoch_of};
-ghost use Rattle.tle.specs.Read.{class_of, letter, given, refusal_in};
+ghost use Rattle.tle.specs.Read.{class_of, letter, given};
 ghost use Rattle.tle.specs.Refusals.{number_of};
 
-use instant::{Epoch, epoch_instant};
+use instant::{Instant, epoch_instant};
 
 mod limits;
 mod reader;
@@ -110,7 +110,7 @@ impl Fields {
 }
 
 // The record's epoch as an instant; of a legal record always inside 1957-2056.
-pub fn epoch(r: Record) -> Epoch
+pub fn epoch(r: Record) -> Option<Instant>
     ensures { result ≡ epoch_of r.year r.day }
 {
     epoch_instant(r.year, r.day)
@@ -145,40 +145,6 @@ pub enum Refusal {
     Numbers,
     Range(Field),
     NoForm,
-}
-
-// What judging the columns of a line, or of two, finds.
-#[derive(Clone, Copy)]
-pub enum Verdict {
-    Lawful,
-    Refused(Refusal),
-}
-
-// What judging the form of two lines gives: their fields, or a refusal from 1 to 5.
-#[derive(Clone, Copy)]
-pub enum Form {
-    Fields(Fields),
-    Refused(Refusal),
-}
-
-impl Form {
-    // The refusal of a form that is refused, to be passed up. Of fields, which are not, it counts as 16.
-    pub fn refusal(self) -> Refusal
-        ensures { result ≡ refusal_in self }
-    {
-        match self {
-            Form::Fields(_) => Refusal::NoForm,
-            Form::Refused(why) => why,
-        }
-    }
-}
-
-// What judging the meaning of fields gives: the record, whose fields are in their ranges, or refusal
-// 16 or 6. With the refusals of their form, what reading two lines gives.
-#[derive(Clone, Copy)]
-pub enum Reading {
-    Record(Record),
-    Refused(Refusal),
 }
 
 impl Refusal {

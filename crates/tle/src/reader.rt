@@ -1,15 +1,12 @@
 // Reading two lines: document 01, "The two lines" and refusals 1 to 6, in the two operations of
 // document 02, wish 9. read_form judges their form, read_meaning what it yields.
 
-ghost use Rattle.std.specs.Prelude.{◌≡◌, length, ◌+◌, ◌^◌, ◌≤◌, ◌<◌};
+ghost use Rattle.std.specs.Prelude.{◌≡◌, length, ◌+◌, ◌^◌, ◌≤◌, ◌<◌, Ok};
 ghost use Rattle.tle.specs.Number.{value_on, field, signed};
-ghost use Rattle.tle.specs.declared.Verdict.TheVariants as verdict;
 ghost use Rattle.tle.specs.Read.{verdict_of, number_at, pair_of, designator_at, year_of, ndot_at, scaled_at, degrees_at, day_at, motion_at, fields_of, formed, form_of, ranges_of, meaning_of};
 
 use super::limits::{angle_in_range, inclination_in_range, motion_in_range};
-use super::{
-    Class, Designator, Field, Fields, Form, Line, Reading, Record, Refusal, Scaled, Verdict,
-};
+use super::{Class, Designator, Field, Fields, Line, Record, Refusal, Scaled};
 use columns::{agreeing, checksum, digit, first_place};
 use instant::day_in_range;
 
@@ -19,10 +16,8 @@ fn value(s: &[u8]) -> u64
     ensures { (result ≡ value_on 0 s.now) × (result < 10 ^ length s.now) }
 {
     let mut a: u64 = 0;
-    let mut i = 0;
-    while i < s.len() {
-        a = a * 10 + digit(s[i]);
-        i += 1;
+    for b in s {
+        a = a * 10 + digit(*b);
     }
     a
 }
@@ -36,24 +31,24 @@ fn field_at(line: &[u8], at: usize, w: usize) -> u64
 }
 
 // Refusals 1 to 4 of one line, by its layout.
-fn judge_line(which: Line, layout: &[u8], line: &[u8]) -> Verdict
+fn judge_line(which: Line, layout: &[u8], line: &[u8]) -> Result<(), Refusal>
     requires { length layout.now ≡ 69 }
     ensures { result ≡ verdict_of which layout.now line.now }
 {
     if line.len() != 69 {
-        return Verdict::Refused(Refusal::Length(which));
+        return Err(Refusal::Length(which));
     }
     let n = agreeing(layout, line);
     if n == 0 {
-        return Verdict::Refused(Refusal::Start(which));
+        return Err(Refusal::Start(which));
     }
     if n != 69 {
-        return Verdict::Refused(Refusal::Column(which, n + 1));
+        return Err(Refusal::Column(which, n + 1));
     }
     if checksum(&line[0..68]) != digit(line[68]) {
-        return Verdict::Refused(Refusal::Checksum(which));
+        return Err(Refusal::Checksum(which));
     }
-    Verdict::Lawful
+    Ok(())
 }
 
 // The catalogue number of either line.
@@ -66,23 +61,17 @@ fn number_at(line: &[u8]) -> u64
 
 // Refusals 1 to 5: line 1, then line 2, then both. crate columns says what each letter of a layout
 // stands for.
-fn judge_pair(line1: &[u8], line2: &[u8]) -> Verdict
+fn judge_pair(line1: &[u8], line2: &[u8]) -> Result<(), Refusal>
     ensures { result ≡ pair_of line1.now line2.now }
 {
     let layout1 = b"1 NDDDDC RffffLll DDDDD.DDDDDDDD S.DDDDDDDD SDDDDDED SDDDDDED D RrrDD";
     let layout2 = b"2 NDDDD RrD.DDDD RrD.DDDD DDDDDDD RrD.DDDD RrD.DDDD RD.DDDDDDDDRrrrDD";
-    let first = judge_line(Line::One, layout1, line1);
-    let Verdict::Lawful = first else {
-        return first;
-    };
-    let second = judge_line(Line::Two, layout2, line2);
-    let Verdict::Lawful = second else {
-        return second;
-    };
+    judge_line(Line::One, layout1, line1)?;
+    judge_line(Line::Two, layout2, line2)?;
     if number_at(line1) != number_at(line2) {
-        return Verdict::Refused(Refusal::Numbers);
+        return Err(Refusal::Numbers);
     }
-    Verdict::Lawful
+    Ok(())
 }
 
 fn designator_at(line: &[u8]) -> Designator
@@ -199,56 +188,53 @@ fn fields(line1: &[u8], line2: &[u8]) -> Record
 }
 
 // What a lawful pair yields: its fields, in their ranges or not.
-fn yielded(r: Record) -> Form
-    ensures { result ≡ formed verdict.Lawful r }
+fn yielded(r: Record) -> Result<Fields, Refusal>
+    ensures { result ≡ formed (Ok tt) r }
 {
-    Form::Fields(Fields(r, true))
+    Ok(Fields(r, true))
 }
 
 // The form of two lines, of any bytes and any lengths: refusals 1 to 5, or the fields.
-pub fn read_form(line1: &[u8], line2: &[u8]) -> Form
+pub fn read_form(line1: &[u8], line2: &[u8]) -> Result<Fields, Refusal>
     ensures { result ≡ form_of line1.now line2.now }
 {
-    let verdict = judge_pair(line1, line2);
-    match verdict {
-        Verdict::Refused(refusal) => Form::Refused(refusal),
-        Verdict::Lawful => yielded(fields(line1, line2)),
-    }
+    judge_pair(line1, line2)?;
+    yielded(fields(line1, line2))
 }
 
 // The ranges of the fields: refusal 6, or the record.
-fn judge_ranges(r: Record) -> Reading
+fn judge_ranges(r: Record) -> Result<Record, Refusal>
     ensures { result ≡ ranges_of r }
 {
     if !day_in_range(r.year, r.day) {
-        return Reading::Refused(Refusal::Range(Field::Day));
+        return Err(Refusal::Range(Field::Day));
     }
     if !inclination_in_range(r.inclination) {
-        return Reading::Refused(Refusal::Range(Field::Inclination));
+        return Err(Refusal::Range(Field::Inclination));
     }
     if !angle_in_range(r.node) {
-        return Reading::Refused(Refusal::Range(Field::Node));
+        return Err(Refusal::Range(Field::Node));
     }
     if !angle_in_range(r.perigee) {
-        return Reading::Refused(Refusal::Range(Field::Perigee));
+        return Err(Refusal::Range(Field::Perigee));
     }
     if !angle_in_range(r.anomaly) {
-        return Reading::Refused(Refusal::Range(Field::Anomaly));
+        return Err(Refusal::Range(Field::Anomaly));
     }
     if !motion_in_range(r.motion) {
-        return Reading::Refused(Refusal::Range(Field::Motion));
+        return Err(Refusal::Range(Field::Motion));
     }
-    Reading::Record(r)
+    Ok(r)
 }
 
 // The meaning of fields, whoever gives them: refusal 16 where no accepted form yields them, then 6, or
 // the record.
-pub fn read_meaning(fields: Fields) -> Reading
+pub fn read_meaning(fields: Fields) -> Result<Record, Refusal>
     ensures { result ≡ meaning_of fields }
 {
     let r = fields.0;
     if !fields.1 {
-        return Reading::Refused(Refusal::NoForm);
+        return Err(Refusal::NoForm);
     }
     judge_ranges(r)
 }

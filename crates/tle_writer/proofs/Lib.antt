@@ -2,7 +2,6 @@ pub mod Puts
 pub mod Signs
 pub mod Overs
 pub mod Bodies
-pub mod Front
 pub mod Writes
 pub mod Facts
 pub mod Values

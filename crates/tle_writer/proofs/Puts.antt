@@ -7,9 +7,6 @@ use lib.ListN.{length, drop, set, length-set, drop_of_length-le}
 use lib.Seq.{drop-cons, append_snoc, get_or-set_same, drop-set-lt}
 use Rattle.tle_writer.specs.Field.{place, lead}
 
-pub start : (z w n : ℕ) (out : List ℕ) → length out ≡ w → lead z w n ≡ lead z w n ++ drop w out
-start z w n out e = rw (drop_of_length-le out {i = w} (omega arith)) (sym (append-nil (lead z w n)))
-
 at_set : (j p : ℕ) (out : List ℕ) → j < length out → drop j (set out j p) ≡ p ∷ drop (suc j) out
 at_set j p out h =
     drop-cons (set out j p) j 0 (rw length-set h) ∙ rw (get_or-set_same out j p 0 h, drop-set-lt (suc j) out j p (omega arith))

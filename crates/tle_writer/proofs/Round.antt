@@ -18,9 +18,7 @@ use Rattle.tle.specs.Read.{verdict_of, number_at, pair_of, form_of, ranges_of, g
 use Rattle.tle.specs.declared.Record.{Record}
 use Rattle.tle.specs.declared.Line.{Line}
 use Rattle.tle.specs.declared.Line.TheVariants.{One, Two}
-use Rattle.tle.specs.declared.Verdict.TheVariants as verdict
-use Rattle.tle.specs.declared.Form.TheVariants as form
-use Rattle.tle.specs.declared.Reading.TheVariants as reading
+use Rattle.std.specs.Prelude.{Ok}
 use Rattle.tle.specs.declared.Refusal.TheVariants.{NoForm}
 use Rattle.tle.proofs.Meaning.{forms_yield}
 use Rattle.tle.proofs.Accepted.{within}
@@ -97,7 +95,7 @@ module _ (body : List ℕ) (h : length body ≡ 68) where
       eq-eqb _ _ (ap (λ (l : List ℕ). sum l % 10) before ∙ sym (ap digit_of last ∙ place_value _ 48 (sum body % 10) refl refl ∙ e))
 
 -- a line written and judged has no fault in any column, and its checksum is right
-pub judged : (which : Line) (r : Record) → Held r → verdict_of which (layout_of which) (line_of which r) ≡ verdict.Lawful
+pub judged : (which : Line) (r : Record) → Held r → verdict_of which (layout_of which) (line_of which r) ≡ Ok tt
 unfolding verdict_of line_of
 judged which r k =
     rw (length_line which r, agreed_all which r k, checks (body_of which r) (length_body which r))
@@ -107,19 +105,19 @@ numbers : (r : Record) → number_at (line_of One r) ≡ number_at (line_of Two 
 unfolding number_at line_of closed_of body_of join lead
 numbers r = refl
 
-pub pair_lawful : (r : Record) → Held r → pair_of (line_of One r) (line_of Two r) ≡ verdict.Lawful
+pub pair_lawful : (r : Record) → Held r → pair_of (line_of One r) (line_of Two r) ≡ Ok tt
 unfolding pair_of
 pair_lawful r k = rw (judged One r k, judged Two r k, eq-eqb (number_at (line_of One r)) (number_at (line_of Two r)) (numbers r))
 
 -- their form yields the record's fields, in range or not
-pub form_back : (r : Record) → in_form r ≡ true → form_of (line_of One r) (line_of Two r) ≡ form.Fields (given r)
+pub form_back : (r : Record) → in_form r ≡ true → form_of (line_of One r) (line_of Two r) ≡ Ok (given r)
 unfolding form_of
 form_back r h = rw (pair_lawful r (formed r h), fields_back r (formed r h), h)
 
 pub forms_exactly : FormsExactly
 forms_exactly r = (λ h. (line_of One r, line_of Two r, form_back r h), λ l. (forms_yield l.0 l.1 (given r) l.2).0)
 
-in_ranges_lem : (r : Record) → in_ranges r ≡ true → ranges_of r ≡ reading.Record r
+in_ranges_lem : (r : Record) → in_ranges r ≡ true → ranges_of r ≡ Ok r
 unfolding ranges_of
 in_ranges_lem r h =
     let k = ranges r h in

@@ -19,8 +19,9 @@ use Rattle.tle_writer.specs.Lines.{join, body_of, closed_of, line_of}
 use Rattle.tle_writer.specs.Over.{over}
 use Rattle.tle_writer.specs.Write.{number_of, writing_of, after, written_over, Handed}
 use Rattle.tle_writer.specs.Claims.{LinesLong}
-use Rattle.tle_writer.specs.declared.Writing.{Writing}
-use Rattle.tle_writer.specs.declared.Writing.TheVariants.{Written, Illegal, Short}
+use Rattle.std.specs.Prelude.{Err, Ok, Result}
+use Rattle.tle_writer.specs.declared.WritingRefusal.TheVariants as writing
+use Rattle.tle_writer.specs.declared.WritingRefusal.{WritingRefusal}
 use Rattle.tle_writer.proofs.Bodies.{places}
 
 pub closing : (l : List ℕ) (k : ℕ) → length l ≡ 69 → k ≡ sum (take 68 l) % 10 → over 68 1 (digits 1 k) l ≡ closed_of (take 68 l)
@@ -33,15 +34,15 @@ unfolding body_of join lead
 columns One r = rw (places r.designator)
 columns Two r = refl
 
-pub illegal : (r : Record) (which : Line) (out : List ℕ) → legal r ≡ false → (Illegal ≡ writing_of r out) × (out ≡ written_over r which out)
+pub illegal : (r : Record) (which : Line) (out : List ℕ) → legal r ≡ false → ((Err writing.Illegal) ≡ writing_of r out) × (out ≡ written_over r which out)
 unfolding writing_of written_over
 illegal r which out e = (rw e, rw e)
 
-pub short : (r : Record) (which : Line) (out : List ℕ) → legal r ≡ true → length out < 69 → (Short ≡ writing_of r out) × (out ≡ written_over r which out)
+pub short : (r : Record) (which : Line) (out : List ℕ) → legal r ≡ true → length out < 69 → ((Err writing.Short) ≡ writing_of r out) × (out ≡ written_over r which out)
 unfolding writing_of written_over
 short r which out e h = (rw (e, lt-leb 69 (length out) h), rw (e, lt-leb 69 (length out) h))
 
-pub written : (r : Record) (which : Line) (out : List ℕ) → legal r ≡ true → 69 ≤ length out → (Written ≡ writing_of r out) × (line_of which r ++ drop 69 out ≡ written_over r which out)
+pub written : (r : Record) (which : Line) (out : List ℕ) → legal r ≡ true → 69 ≤ length out → ((Ok tt) ≡ writing_of r out) × (line_of which r ++ drop 69 out ≡ written_over r which out)
 unfolding writing_of written_over
 written r which out e h = (rw (e, le-leb 69 (length out) h), rw (e, le-leb 69 (length out) h))
 
@@ -50,16 +51,16 @@ unfolding line_of closed_of body_of join lead
 length_line One r = rw (places r.designator)
 length_line Two r = refl
 
-pub zero_written : (w : Writing) → number_of w ≡ 0 → w ≡ Written
-zero_written Written h = refl
-zero_written Illegal h = absurd (omega arith)
-zero_written Short h = absurd (omega arith)
+pub zero_written : (w : Result (Unit {0}) WritingRefusal) → number_of w ≡ 0 → w ≡ Ok tt
+zero_written (Ok tt) h = refl
+zero_written (Err writing.Illegal) h = absurd (omega arith)
+zero_written (Err writing.Short) h = absurd (omega arith)
 
 -- a refusal leaves the room m as it was, and hands it back
-refused_as : (w : Writing) (line m : List ℕ) (out : MutBor (List ℕ)) → (number_of w ≡ 0 → ⊥) → m ≡ after w line out.now → Handed w line out (at_last out m)
-refused_as Written line m out h e = absurd (h refl)
-refused_as Illegal line m out h e = ap (at_last out) e
-refused_as Short line m out h e = ap (at_last out) e
+refused_as : (w : Result (Unit {0}) WritingRefusal) (line m : List ℕ) (out : MutBor (List ℕ)) → (number_of w ≡ 0 → ⊥) → m ≡ after w line out.now → Handed w line out (at_last out m)
+refused_as (Ok tt) line m out h e = absurd (h refl)
+refused_as (Err writing.Illegal) line m out h e = ap (at_last out) e
+refused_as (Err writing.Short) line m out h e = ap (at_last out) e
 
 pub refused : (r : Record) (which : Line) (m : List ℕ) (out : MutBor (List ℕ)) → (number_of (writing_of r out.now) ≡ 0 → ⊥)
     → m ≡ written_over r which out.now → Handed (writing_of r out.now) (line_of which r) out (at_last out m)
@@ -67,7 +68,7 @@ unfolding written_over
 refused r which m out h e = refused_as (writing_of r out.now) (line_of which r) m out h e
 
 -- the room m after a line was written into out
-module _ (r : Record) (which : Line) (out m : List ℕ) (e : m ≡ written_over r which out) (w : writing_of r out ≡ Written) where
+module _ (r : Record) (which : Line) (out m : List ℕ) (e : m ≡ written_over r which out) (w : writing_of r out ≡ Ok tt) where
   room : m ≡ line_of which r ++ drop 69 out
   unfolding written_over
   room = e ∙ rw w

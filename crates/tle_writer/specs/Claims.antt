@@ -1,5 +1,5 @@
 -- What is claimed of the lines that are written. Proved in proofs/Round.antt, proofs/Writes.antt and proofs/Numbers.antt.
-use Rattle.std.specs.Prelude.{ℕ, ◌<◌, ◌≡◌, ◌↔◌, true, List, length}
+use Rattle.std.specs.Prelude.{ℕ, ◌<◌, ◌≡◌, ◌↔◌, true, List, length, Ok}
 use Rattle.text.specs.Output.{bytes}
 use Rattle.columns.specs.Layout.{Lawful}
 use Rattle.tle.specs.Claims.{layout_of}
@@ -9,22 +9,20 @@ use Rattle.tle.specs.Read.{form_of, given, meaning_of, read_of}
 use Rattle.tle.specs.declared.Record.{Record}
 use Rattle.tle.specs.declared.Line.{Line}
 use Rattle.tle.specs.declared.Line.TheVariants.{One, Two}
-use Rattle.tle.specs.declared.Form.TheVariants as form
-use Rattle.tle.specs.declared.Reading.TheVariants as reading
 use Rattle.tle_writer.specs.Field.{number_places}
 use Rattle.tle_writer.specs.Lines.{line_of}
 
 -- demand 2: a legal record written and read is that record
 abbrev pub ReturnTrip : Type 0
-ReturnTrip = (r : Record) → legal r ≡ true → read_of (line_of One r) (line_of Two r) ≡ reading.Record r
+ReturnTrip = (r : Record) → legal r ≡ true → read_of (line_of One r) (line_of Two r) ≡ Ok r
 
 -- document 02, wish 9: the fields that an accepted form yields are exactly those in form
 abbrev pub FormsExactly : Type 0
-FormsExactly = (r : Record) → (in_form r ≡ true) ↔ ((line1 : List ℕ) × (line2 : List ℕ) × (form_of line1 line2 ≡ form.Fields (given r)))
+FormsExactly = (r : Record) → (in_form r ≡ true) ↔ ((line1 : List ℕ) × (line2 : List ℕ) × (form_of line1 line2 ≡ Ok (given r)))
 
 -- and judging the meaning of any fields gives exactly the legal records, each of its own fields
 abbrev pub MeaningExactly : Type 0
-MeaningExactly = (f r : Record) → (meaning_of (given f) ≡ reading.Record r) ↔ ((f ≡ r) × (legal r ≡ true))
+MeaningExactly = (f r : Record) → (meaning_of (given f) ≡ Ok r) ↔ ((f ≡ r) × (legal r ≡ true))
 
 -- either line of a legal record keeps the layout by which it is read
 abbrev pub WrittenAreLawful : Type 0

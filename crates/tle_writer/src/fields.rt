@@ -18,15 +18,12 @@ fn place_of(z: u8, n: u64) -> u8
     b'0' + (n % 10) as u8
 }
 
-// The last w places of n over all of out.
-fn put(out: &mut [u8], w: usize, z: u8, n: u64)
-    requires { length out.old ≡ w }
-    ensures { out.new ≡ lead z w n }
+// The last places of n over all of out.
+fn put(out: &mut [u8], z: u8, n: u64)
+    ensures { out.new ≡ lead z (length out.old) n }
 {
     let mut m = n;
-    let mut i = w;
-    while 0 < i {
-        i -= 1;
+    for i in (0..out.len()).rev() {
         out[i] = place_of(z, m);
         m = m / 10;
     }
@@ -38,7 +35,7 @@ pub(crate) fn put_at(line: [u8; 69], at: usize, w: usize, z: u8, n: u64) -> [u8;
     ensures { Put at w (lead z w n) line result }
 {
     let mut l = line;
-    put(&mut l[at..at + w], w, z, n);
+    put(&mut l[at..at + w], z, n);
     l
 }
 

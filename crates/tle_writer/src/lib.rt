@@ -2,7 +2,7 @@
 // value, a field at a time, and then copied to the front of the lent room.
 #![tactic(auto)]
 
-ghost use Rattle.std.specs.Prelude.{◌≡◌, ◌++◌, ◌≤◌, length, drop};
+ghost use Rattle.std.specs.Prelude.{◌≡◌};
 ghost use Rattle.tle_writer.specs.Write.{number_of, writing_of, written_over, Handed};
 ghost use Rattle.tle_writer.specs.Lines.{line_of};
 
@@ -12,54 +12,39 @@ use tle::{Line, Record, legal};
 mod fields;
 mod lines;
 
-// What writing a line gives.
+// Why a line is not written.
 #[derive(Clone, Copy)]
-pub enum Writing {
-    Written,
+pub enum WritingRefusal {
     // 16: the record is outside the layout or the ranges.
     Illegal,
     // 17: the room is shorter than a line.
     Short,
 }
 
-impl Writing {
-    // Document 01's number of the refusal, 0 where the line was written.
-    pub fn number(self) -> u8
-        ensures { result ≡ number_of self }
-    {
-        match self {
-            Writing::Written => 0,
-            Writing::Illegal => 16,
-            Writing::Short => 17,
-        }
-    }
-}
-
-// The line over the first bytes of out.
-fn put_front(line: [u8; 69], out: &mut [u8])
-    requires { 69 ≤ length out.old }
-    ensures { out.new ≡ line ++ drop 69 out.old }
+// Document 01's number of the refusal, 0 where the line was written.
+pub fn writing_number(written: Result<(), WritingRefusal>) -> u8
+    ensures { result ≡ number_of written }
 {
-    let mut i = 0;
-    while i < 69 {
-        out[i] = line[i];
-        i += 1;
+    match written {
+        Ok(()) => 0,
+        Err(WritingRefusal::Illegal) => 16,
+        Err(WritingRefusal::Short) => 17,
     }
 }
 
 // Writes one of the record's two lines at the front of out. What lies past it stays, and after a
 // refusal all of out.
-pub fn fill_line(r: Record, which: Line, out: &mut [u8]) -> Writing
+pub fn fill_line(r: Record, which: Line, out: &mut [u8]) -> Result<(), WritingRefusal>
     ensures { (result ≡ writing_of r out.old) × (out.new ≡ written_over r which out.old) }
 {
     if !legal(r) {
-        return Writing::Illegal;
+        return Err(WritingRefusal::Illegal);
     }
     if out.len() < 69 {
-        return Writing::Short;
+        return Err(WritingRefusal::Short);
     }
-    put_front(line_of(which, r), out);
-    Writing::Written
+    out[..69].copy_from_slice(&line_of(which, r));
+    Ok(())
 }
 
 // As fill_line, and hands back the part of out just written, which begins where out begins; after a
@@ -71,7 +56,7 @@ pub fn write_line<'a>(r: Record, which: Line, out: &'a mut [u8], why: &mut u8) -
     ensures why_after { why.new ≡ number_of (writing_of r out.old) }
 {
     let room = out.len();
-    let k = fill_line(r, which, out).number();
+    let k = writing_number(fill_line(r, which, out));
     *why = k;
     if k != 0 {
         return out;

@@ -2,7 +2,7 @@
 // (document 02, wish 7), or `refused 22` and which of the two is no roster.
 #![tactic(auto)]
 
-use compare::{Compared, Which, compare};
+use compare::{CompareRefusal, Which, compare};
 use files::{argument_count, read_argument};
 use roster_calls::fill_row;
 
@@ -13,15 +13,20 @@ fn print_which(rt: HostRuntime, failed: &mut bool, which: Which) {
     }
 }
 
-fn print_answer(rt: HostRuntime, failed: &mut bool, answer: Compared, out: &[u8]) {
+fn print_answer(
+    rt: HostRuntime,
+    failed: &mut bool,
+    answer: Result<usize, CompareRefusal>,
+    out: &[u8],
+) {
     match answer {
-        Compared::Written(n) => {
+        Ok(n) => {
             if n <= out.len() {
                 streams::print(rt, failed, &out[0..n]);
             }
         }
-        Compared::NoRoster(which) => print_which(rt, failed, which),
-        Compared::RoomTooShort => streams::print(rt, failed, b"refused 17\n"),
+        Err(CompareRefusal::NoRoster(which)) => print_which(rt, failed, which),
+        Err(CompareRefusal::RoomTooShort) => streams::print(rt, failed, b"refused 17\n"),
     }
 }
 
@@ -40,8 +45,8 @@ fn main(rt: HostRuntime) {
     let m = read_argument(rt, &mut failed, 2, &mut second);
     let mut row1 = [0u64; 64];
     let mut row2 = [0u64; 64];
-    fill_row(&first[..n], &mut row1);
-    fill_row(&second[..m], &mut row2);
+    let _ = fill_row(&first[..n], &mut row1);
+    let _ = fill_row(&second[..m], &mut row2);
     let mut out = [0u8; 24448];
     let answer = compare(&first[..n], &row1, &second[..m], &row2, &mut out);
     print_answer(rt, &mut failed, answer, &out);

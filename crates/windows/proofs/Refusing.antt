@@ -77,14 +77,6 @@ meets_step p step n b h =
 
 -- ── places ──
 
-pub few_here : (n p : ℕ) → p < (n + 1) / 2 → true ≡ few_places n p
-unfolding few_places
-few_here n p h = rw (lt-ltb p ((n + 1) / 2) h)
-
-pub enough_here : (n p : ℕ) → (n + 1) / 2 ≤ p → false ≡ few_places n p
-unfolding few_places
-enough_here n p h = rw (le-ltb p ((n + 1) / 2) h)
-
 pub places_enough : (n p : ℕ) → few_places n p ≡ false → (n + 1) / 2 ≤ p
 unfolding few_places
 places_enough n p h = ltb-false p ((n + 1) / 2) h

@@ -64,10 +64,11 @@ module _ (e start step n m : ℕ) where
         let z : k + 1 ≡ suc k = omega arith in
         subst (λ (j : ℕ). Timing e start step n m (set ts k x) (t + step * 1000000) j) (sym z) (suc_step l h x v)
 
-    pub timing_done : n ≤ k → Times e start step n k ts
+    pub timing_done : n ≤ k → Times e start step n n ts
     timing_done l =
         let d : n - k ≡ 0 = omega arith in
-        record { upto = s.upto; taken = sym (s.so_far ∙ ap (λ j. take k ts ++ times_of e (instants_from start step k j)) d ∙ append_nil (take k ts)); inside = s.begun }
+        let all : k ≡ n = omega (arith, s.upto) in
+        subst (λ (j : ℕ). Times e start step n j ts) all (record { upto = s.upto; taken = sym (s.so_far ∙ ap (λ j. take k ts ++ times_of e (instants_from start step k j)) d ∙ append_nil (take k ts)); inside = s.begun })
 
     pub timing_out : 3155760000000000 ≤ t → Times e start step n k ts
     timing_out l =

@@ -94,8 +94,7 @@ fn scan(
         first: 0,
         last: 0,
     };
-    let mut i = 0;
-    while i < k {
+    for i in 0..k {
         let t = start + i as u64 * step * 1000000;
         let refusal = refusals[i];
         let x = states[6 * i];
@@ -111,7 +110,6 @@ fn scan(
                 last: 0,
             };
         }
-        i += 1;
     }
     put(firsts, lasts, n, run)
 }
@@ -136,16 +134,14 @@ fn fill_times(epoch: u64, start: u64, step: u64, samples: usize, times: &mut [i6
     ensures { C.Times epoch start step samples result times.new }
 {
     let mut t = start;
-    let mut k = 0;
-    while k < samples {
+    for k in 0..samples {
         if t >= 3155760000000000 {
             return k;
         }
         times[k] = time_since(t, epoch);
         t += step * 1000000;
-        k += 1;
     }
-    k
+    samples
 }
 
 // How many windows there are, with the satellite to be handed to the next.
@@ -238,25 +234,14 @@ pub fn call_refusal(station: [f64; 3], step: Seconds, samples: usize, short: boo
 fn few_places(samples: usize, a: usize, b: usize) -> bool
     ensures { result ≡ W.few_places samples (min a b) }
 {
-    let half = samples / 2 + samples % 2;
-    if a < half {
-        return true;
-    }
-    if b < half {
-        return true;
-    }
-    false
+    a.min(b) < samples.div_ceil(2)
 }
 
 // An epoch so late that every instant of the calendar is too far from it stands for all later ones.
 fn near_epoch(epoch: u64) -> u64
     ensures { result ≡ min epoch 3471292800000000 }
 {
-    if epoch < 3471292800000000 {
-        epoch
-    } else {
-        3471292800000000
-    }
+    epoch.min(3471292800000000)
 }
 
 // The refusal number (0 when answered), how many windows there are, and the strides of all samples,

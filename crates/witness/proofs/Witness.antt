@@ -35,8 +35,10 @@ use Rattle.lunar_solar.specs.Finite as bodyFinite
 use Rattle.resonance_terms.specs.Dsinit.{one_day, half_day, one_day_of, g520_of, low_of, high_of, inclined_of, half_day_sum, half_day_of, kind_of, theta_of, half_day_start, one_day_start, start_of, aonv_of, dsinit_from, dsinit_of}
 use Rattle.resonance_terms.specs.Finite.{finite_one_day, finite_half_day, finite_kind, finite_integrator}
 use Rattle.resonance.specs.Time.{resonant}
-use Rattle.opening.specs.declared.opening.PairOpening.{PairOpening}
-use Rattle.opening.specs.declared.opening.PairOpening.TheVariants as pair
+use Rattle.std.specs.Prelude.{Err, Ok, Result}
+use Rattle.opening.specs.declared.opening.Satellite.{Satellite}
+use Rattle.opening.specs.declared.opening.PairRefusal.{PairRefusal}
+use Rattle.opening.specs.declared.opening.PairRefusal.TheVariants as pair
 use Rattle.opening.specs.Elements.{xpdotp, bstar_of, elements_of}
 use Rattle.opening.specs.DeepSpace.{common, unchanged, set_up, orbit, at_epoch, deep_space_of}
 use Rattle.opening.specs.Opening.{model_of, newly, finite_deep, finite_method, finite_record, checked, above, started, dated, open_of, opened, after_reading, open_pair_of}
@@ -46,10 +48,10 @@ use Rattle.sequences.proofs.Edges.{edges_hold}
 use Rattle.witness.specs.Witness.{Pair, italsat, molniya, irez, Opens, Witnessed}
 
 -- the kind of resonance of what two lines open to; 0 where they do not
-kind_in : PairOpening → ℕ
-kind_in (pair.Opened s) = irez (integrator_of s.model).resonance
-kind_in (pair.Unread why) = 0
-kind_in (pair.Refused why) = 0
+kind_in : Result Satellite PairRefusal → ℕ
+kind_in (Ok s) = irez (integrator_of s.model).resonance
+kind_in (Err (pair.Unread why)) = 0
+kind_in (Err (pair.Refused why)) = 0
 
 computed : (kind_in (open_pair_of italsat.line1 italsat.line2) ≡ 1) × (kind_in (open_pair_of molniya.line1 molniya.line2) ≡ 2)
 unfolding kind_in irez integrator_of integrator_by
@@ -80,9 +82,9 @@ kind_resonant kinds.None k h = absurd (omega (arith, h))
 kind_resonant (kinds.OneDay d) k h = refl
 kind_resonant (kinds.HalfDay d) k h = refl
 
-of_kind : (p : Pair) (k : ℕ) (x : PairOpening) → open_pair_of p.line1 p.line2 ≡ x → kind_in x ≡ suc k → Opens p (suc k)
+of_kind : (p : Pair) (k : ℕ) (x : Result Satellite PairRefusal) → open_pair_of p.line1 p.line2 ≡ x → kind_in x ≡ suc k → Opens p (suc k)
 unfolding kind_in
-of_kind p k (pair.Opened s) e h =
+of_kind p k (Ok s) e h =
     let m = made_of p.line1 p.line2 s e in
     record {
       satellite = s;
@@ -90,8 +92,8 @@ of_kind p k (pair.Opened s) e h =
       resonance = h;
       strides = edges_hold m.source s m.opens (kind_resonant (integrator_of s.model).resonance k h);
     }
-of_kind p k (pair.Unread why) e h = absurd (omega (arith, h))
-of_kind p k (pair.Refused why) e h = absurd (omega (arith, h))
+of_kind p k (Err (pair.Unread why)) e h = absurd (omega (arith, h))
+of_kind p k (Err (pair.Refused why)) e h = absurd (omega (arith, h))
 
 pub witnessed : Witnessed
 witnessed = (

@@ -1,11 +1,10 @@
 -- Document 01's stride cases ("resonant, minutes 1440, 2880, ..") and the resonant part of demand 3 speak of a satellite that opens resonant.
 -- Such satellites are: here is one of each kind, of the published test set. Definitions only.
-use Rattle.std.specs.Prelude.{ℕ, ◌≡◌, List}
+use Rattle.std.specs.Prelude.{ℕ, ◌≡◌, List, Ok}
 use Rattle.text.specs.Output.{bytes}
 use Rattle.satellite.specs.declared.Resonance.{Resonance}
 use Rattle.satellite.specs.declared.Resonance.TheVariants as kinds
 use Rattle.opening.specs.declared.opening.Satellite.{Satellite}
-use Rattle.opening.specs.declared.opening.PairOpening.TheVariants as pair
 use Rattle.opening.specs.Opening.{open_pair_of}
 use Rattle.sgp4.specs.Sgp4.{integrator_of}
 use Rattle.sequences.specs.Edges.{Each, edges}
@@ -39,7 +38,7 @@ irez (kinds.HalfDay h) = 2
 -- the pair is read and opened, its satellite has that kind of resonance, and every stride case of document 01 holds of it
 pub record Opens (p : Pair) (kind : ℕ) : Type 0 where
   pub satellite : Satellite
-  pub opened : open_pair_of p.line1 p.line2 ≡ pair.Opened satellite
+  pub opened : open_pair_of p.line1 p.line2 ≡ Ok satellite
   pub resonance : irez (integrator_of satellite.model).resonance ≡ kind
   pub strides : Each satellite edges
 

@@ -4,7 +4,7 @@ use Prim.Native.Nat.{ℕ, ◌+◌, ◌-◌, ◌≤◌}
 use Rattle.award.specs.Plan.{answer_of}
 use native.Mathlib.Omega.{arith}
 use borrow.Author.Tests.{lt-ltb, le-ltb, le-leb, lt-leb}
-use Rattle.award_text.specs.declared.Verdict.TheVariants as verdict
+use Rattle.std.specs.Prelude.{Ok}
 use Rattle.award_text.specs.Text.{judged}
 use Rattle.award_text.proofs.judge.Goals as goal
 
@@ -34,5 +34,5 @@ returns c =
     let m = a.d.entries in
     let row = a.row.now in
     simp (le-ltb _ _ c.if-n-m.false, lt-leb _ _ c.if-m-row-2.false)
-    (ap verdict.Judged c.check_plan-answer.ensures
-    ∙ ap (λ k. verdict.Judged (answer_of (take k row) (take (m - n) (drop n row)) (get_or row m 0) (get_or row (m + 1) 0))) (none-off n))
+    (ap Ok c.check_plan-answer.ensures
+    ∙ ap (λ k. Ok (answer_of (take k row) (take (m - n) (drop n row)) (get_or row m 0) (get_or row (m + 1) 0))) (none-off n))

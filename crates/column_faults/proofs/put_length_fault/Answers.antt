@@ -10,5 +10,5 @@ unfolding length_text
 returns c =
     let a = c.args in
     both c.put_size-p.ensures
-    (both (same (ap end_text (c.byte_at-last.ensures ∙ ap (λ k. get_or a.line.now k 0) c.one_less.ensures)) c.put_end-p.ensures)
+    (both (same (ap end_text (c.byte_at-last.ensures ∙ ap (λ k. get_or a.line.now k 0) c.saturating_sub.ensures)) c.put_end-p.ensures)
     (both c.put_bytes-p.ensures (same (ap (λ k. marked k 1 a.line.now) c.at_most-from.ensures.0) c.put_marked.ensures)))

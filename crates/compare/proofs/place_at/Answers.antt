@@ -17,14 +17,14 @@ returns-then-all_zero c =
 pub returns-in_default : goal.returns-in_default
 returns-in_default c =
     is_refused_lem c.args.b.now c.requires c.args.i c.if-i-ge64.false c.all_zero.result c.all_zero.ensures c.if-all_zero.false _
-    (passed_up _ _ c.read_form-form.ensures c.in_default.is refl) _ refl
+    (passed_up _ _ c.read_form-form.ensures c.in_default.is) _ refl
 
-pub returns-in-Record : goal.returns-in-Record
-returns-in-Record c =
+pub returns-in-Ok-read_meaning : goal.returns-in-Ok-read_meaning
+returns-in-Ok-read_meaning c =
     is_pair c.args.b.now c.requires c.args.i c.if-i-ge64.false c.all_zero.result c.all_zero.ensures c.if-all_zero.false c.read_meaning.result
-    (gone_on_lem _ _ c.read_form-form.ensures c.in-Fields.is c.read_meaning.ensures) _ c.in-Record.is
+    (gone_on_lem _ _ c.read_form-form.ensures c.in-Ok.is c.read_meaning.ensures) _ c.in-Ok-read_meaning.is
 
-pub returns-in-Refused : goal.returns-in-Refused
-returns-in-Refused c =
+pub returns-in-Err : goal.returns-in-Err
+returns-in-Err c =
     is_refused_lem c.args.b.now c.requires c.args.i c.if-i-ge64.false c.all_zero.result c.all_zero.ensures c.if-all_zero.false c.read_meaning.result
-    (gone_on_lem _ _ c.read_form-form.ensures c.in-Fields.is c.read_meaning.ensures) _ c.in-Refused.is
+    (gone_on_lem _ _ c.read_form-form.ensures c.in-Ok.is c.read_meaning.ensures) _ c.in-Err.is

@@ -2,14 +2,14 @@ use mathlib.Core.Path.{sym, ap, ◌∙◌}
 use Rattle.earth_fixed.proofs.Sight.{sight, sighted}
 use Rattle.earth_fixed.proofs.seen.Goals as goal
 
-pub returns-in-Is : goal.returns-in-Is
+pub returns-in-Some : goal.returns-in-Some
 unfolding sight
-returns-in-Is c =
+returns-in-Some c =
     let g = c in
-    c.seen_through.ensures ∙ sym (ap (sight g.args.station g.args.position) c.in-Is.is) ∙ sighted _ _ _ _ g.greenwich-angle.ensures
+    c.seen_through.ensures ∙ sym (ap (sight g.args.station g.args.position) c.in-Some.is) ∙ sighted _ _ _ _ g.greenwich-angle.ensures
 
-pub returns-in-Outside : goal.returns-in-Outside
+pub returns-in-None : goal.returns-in-None
 unfolding sight
-returns-in-Outside c =
+returns-in-None c =
     let g = c in
-    sym (ap (sight g.args.station g.args.position) c.in-Outside.is) ∙ sighted _ _ _ _ g.greenwich-angle.ensures
+    sym (ap (sight g.args.station g.args.position) c.in-None.is) ∙ sighted _ _ _ _ g.greenwich-angle.ensures

@@ -2,10 +2,10 @@ use mathlib.Core.Path.{sym, ap, ◌∙◌}
 use Rattle.explanation.specs.Explained.{opens, is_well}
 use Rattle.explanation.proofs.well.Goals as goal
 
-pub returns-in-Record : goal.returns-in-Record
+pub returns-in-Ok : goal.returns-in-Ok
 unfolding is_well
-returns-in-Record c = c.opens.ensures ∙ ap opens c.kind_of.ensures ∙ sym (ap is_well c.in-Record.is)
+returns-in-Ok c = c.opens.ensures ∙ ap opens c.kind_of.ensures ∙ sym (ap is_well c.in-Ok.is)
 
-pub returns-in-Refused : goal.returns-in-Refused
+pub returns-in-Err : goal.returns-in-Err
 unfolding is_well
-returns-in-Refused c = sym (ap is_well c.in-Refused.is)
+returns-in-Err c = sym (ap is_well c.in-Err.is)

@@ -6,4 +6,4 @@ use Rattle.lent_pairs.proofs.fill_answer.Goals as goal
 pub returns : goal.returns
 unfolding filling_answer
 returns c =
-    record { value = c.number.ensures ∙ plain _ ∙ ap filling_answer c.fill_row.ensures.0; row_after = c.fill_row.ensures.1 }
+    record { value = c.filling_number.ensures ∙ plain _ ∙ ap filling_answer c.fill_row.ensures.0; row_after = c.fill_row.ensures.1 }

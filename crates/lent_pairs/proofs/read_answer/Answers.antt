@@ -5,21 +5,21 @@ use Rattle.answers.specs.Refusals.{refusal_answer}
 use Rattle.answers.proofs.Columns.{read_in_bits}
 use Rattle.lent_pairs.proofs.read_answer.Goals as goal
 
-pub returns-in_default : goal.returns-in_default
+pub returns-in-Err : goal.returns-in-Err
 unfolding reading_answer
-returns-in_default c =
-    let e = sym (passed_up _ _ c.read_form-form.ensures c.in_default.is c.refusal.ensures) in
+returns-in-Err c =
+    let e = sym (passed_up _ _ c.read_form.ensures c.in-Err.is) in
     c.refusal_answer.ensures ∙ ap refusal_answer (read_in_bits _ _ _ e) ∙ sym (ap reading_answer e)
 
-pub returns-in-Record : goal.returns-in-Record
+pub returns-in-Ok-read_meaning : goal.returns-in-Ok-read_meaning
 unfolding reading_answer
-returns-in-Record c =
-    let y = gone_on_lem _ _ c.read_form-form.ensures c.in-Fields.is c.read_meaning.ensures in
-    c.answer.ensures ∙ sym (ap reading_answer (sym y ∙ c.in-Record.is))
+returns-in-Ok-read_meaning c =
+    let y = gone_on_lem _ _ c.read_form.ensures c.in-Ok.is c.read_meaning.ensures in
+    c.answer.ensures ∙ sym (ap reading_answer (sym y ∙ c.in-Ok-read_meaning.is))
 
-pub returns-in-Refused : goal.returns-in-Refused
+pub returns-in-Err-read_meaning : goal.returns-in-Err-read_meaning
 unfolding reading_answer
-returns-in-Refused c =
-    let y = gone_on_lem _ _ c.read_form-form.ensures c.in-Fields.is c.read_meaning.ensures in
-    let e = sym y ∙ c.in-Refused.is in
-    c.refusal_answer-in-Refused.ensures ∙ ap refusal_answer (read_in_bits _ _ _ e) ∙ sym (ap reading_answer e)
+returns-in-Err-read_meaning c =
+    let y = gone_on_lem _ _ c.read_form.ensures c.in-Ok.is c.read_meaning.ensures in
+    let e = sym y ∙ c.in-Err-read_meaning.is in
+    c.refusal_answer-in-Err-read_meaning.ensures ∙ ap refusal_answer (read_in_bits _ _ _ e) ∙ sym (ap reading_answer e)

@@ -8,24 +8,24 @@ use Rattle.answers.proofs.Columns.{read_in_bits}
 use Rattle.lent_pairs.proofs.Records.{accepted_refusal, accepted_stored}
 use Rattle.lent_pairs.proofs.record_answer.Goals as goal
 
-pub returns-in_default : goal.returns-in_default
+pub returns-in-Err : goal.returns-in-Err
 unfolding record_answer record_fields
-returns-in_default c =
+returns-in-Err c =
     let fields = c.args.fields.now in
-    let e = sym (passed_up _ _ c.read_form-form.ensures c.in_default.is c.refusal.ensures) in
+    let e = sym (passed_up _ _ c.read_form.ensures c.in-Err.is) in
     record { value = c.refusal_answer.ensures ∙ ap refusal_answer (read_in_bits _ _ _ e) ∙ sym (ap (λ z. record_answer z (length fields)) e); fields_after = sym (ap (λ z. record_fields z fields) e) }
 
-pub returns-in-Record : goal.returns-in-Record
+pub returns-in-Ok-read_meaning : goal.returns-in-Ok-read_meaning
 unfolding record_answer record_fields
-returns-in-Record c =
+returns-in-Ok-read_meaning c =
     let k = c.before.before.before.before.before.before.before in
     let fields = c.args.fields.now in
-    let e = sym (gone_on_lem _ _ c.read_form-form.ensures c.in-Fields.is c.read_meaning.ensures) ∙ c.in-Record.is in
+    let e = sym (gone_on_lem _ _ c.read_form.ensures c.in-Ok.is c.read_meaning.ensures) ∙ c.in-Ok-read_meaning.is in
     record { value = c.answer.ensures ∙ ap (λ k. answer k 0 0 0) (c.store_record.ensures.value ∙ accepted_refusal _ _ _ e (length fields)) ∙ sym (ap (λ z. record_answer z (length fields)) e); fields_after = c.store_record.ensures.fields_after ∙ accepted_stored _ _ _ e fields ∙ sym (ap (λ z. record_fields z fields) e) }
 
-pub returns-in-Refused : goal.returns-in-Refused
+pub returns-in-Err-read_meaning : goal.returns-in-Err-read_meaning
 unfolding record_answer record_fields
-returns-in-Refused c =
+returns-in-Err-read_meaning c =
     let fields = c.args.fields.now in
-    let e = sym (gone_on_lem _ _ c.read_form-form.ensures c.in-Fields.is c.read_meaning.ensures) ∙ c.in-Refused.is in
-    record { value = c.refusal_answer-in-Refused.ensures ∙ ap refusal_answer (read_in_bits _ _ _ e) ∙ sym (ap (λ z. record_answer z (length fields)) e); fields_after = sym (ap (λ z. record_fields z fields) e) }
+    let e = sym (gone_on_lem _ _ c.read_form.ensures c.in-Ok.is c.read_meaning.ensures) ∙ c.in-Err-read_meaning.is in
+    record { value = c.refusal_answer-in-Err-read_meaning.ensures ∙ ap refusal_answer (read_in_bits _ _ _ e) ∙ sym (ap (λ z. record_answer z (length fields)) e); fields_after = sym (ap (λ z. record_fields z fields) e) }

@@ -6,4 +6,4 @@ use Rattle.lent_pairs.proofs.withdraw_answer.Goals as goal
 pub returns : goal.returns
 unfolding withdrawal_answer
 returns c =
-    record { value = c.number.ensures ∙ plain _ ∙ ap withdrawal_answer c.withdraw.ensures.0; roster_after = c.withdraw.ensures.1; row_after = c.withdraw.ensures.2 }
+    record { value = c.withdrawal_number.ensures ∙ plain _ ∙ ap withdrawal_answer c.withdraw.ensures.0; roster_after = c.withdraw.ensures.1; row_after = c.withdraw.ensures.2 }

@@ -8,14 +8,14 @@ returns-then-room-lt4 c =
     pass_short c.args.numbers.now c.args.marks.now c.args.station.now c.args.start c.args.step c.args.samples c.args.room _ _ c.geodetic_of-g.ensures c.element-least.ensures _
     (short_room 4 _ _ _ c.if-room-lt4.true) c.short_call.ensures
 
-pub returns-in-Loaded : goal.returns-in-Loaded
-returns-in-Loaded c =
-    let h = loaded c.args.numbers.now c.args.marks.now _ (sym c.load.ensures ∙ c.in-Loaded.is) in
+pub returns-in-Some : goal.returns-in-Some
+returns-in-Some c =
+    let h = loaded c.args.numbers.now c.args.marks.now _ (sym c.load.ensures ∙ c.in-Some.is) in
     pass_held c.args.numbers.now c.args.marks.now c.args.station.now c.args.start c.args.step c.args.samples c.args.room _ _ c.geodetic_of-g.ensures c.element-least.ensures _ _
     (long_enough 4 _ _ _ c.if-room-lt4.false h.0) h.1 c.next_pass.ensures
 
-pub returns-in-RoomTooShort : goal.returns-in-RoomTooShort
-returns-in-RoomTooShort c =
-    let h = unloaded c.args.numbers.now c.args.marks.now (sym c.load.ensures ∙ c.in-RoomTooShort.is) in
+pub returns-in-None : goal.returns-in-None
+returns-in-None c =
+    let h = unloaded c.args.numbers.now c.args.marks.now (sym c.load.ensures ∙ c.in-None.is) in
     pass_short c.args.numbers.now c.args.marks.now c.args.station.now c.args.start c.args.step c.args.samples c.args.room _ _ c.geodetic_of-g.ensures c.element-least.ensures _
-    (short_memory 4 _ _ _ c.if-room-lt4.false h) c.short_call-in-RoomTooShort.ensures
+    (short_memory 4 _ _ _ c.if-room-lt4.false h) c.short_call-in-None.ensures

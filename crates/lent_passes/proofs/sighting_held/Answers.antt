@@ -13,14 +13,14 @@ returns-then-room-lt3 c =
     look_short c.args.numbers.now c.args.marks.now c.args.station.now c.args.instant c.args.room _ c.geodetic_of-g.ensures _ c.on_earth.ensures
     (c.if-not-on_earth.false) (short_room 3 _ _ _ c.if-room-lt3.true)
 
-pub returns-in-Loaded : goal.returns-in-Loaded
-returns-in-Loaded c =
-    let h = loaded c.args.numbers.now c.args.marks.now _ (sym c.load.ensures ∙ c.in-Loaded.is) in
+pub returns-in-Some : goal.returns-in-Some
+returns-in-Some c =
+    let h = loaded c.args.numbers.now c.args.marks.now _ (sym c.load.ensures ∙ c.in-Some.is) in
     look_held c.args.numbers.now c.args.marks.now c.args.station.now c.args.instant c.args.room _ c.geodetic_of-g.ensures _ c.on_earth.ensures
     (c.if-not-on_earth.false) (long_enough 3 _ _ _ c.if-room-lt3.false h.0) _ h.1 _ c.site_of.ensures _ c.sighted.ensures
 
-pub returns-in-RoomTooShort : goal.returns-in-RoomTooShort
-returns-in-RoomTooShort c =
-    let h = unloaded c.args.numbers.now c.args.marks.now (sym c.load.ensures ∙ c.in-RoomTooShort.is) in
+pub returns-in-None : goal.returns-in-None
+returns-in-None c =
+    let h = unloaded c.args.numbers.now c.args.marks.now (sym c.load.ensures ∙ c.in-None.is) in
     look_short c.args.numbers.now c.args.marks.now c.args.station.now c.args.instant c.args.room _ c.geodetic_of-g.ensures _ c.on_earth.ensures
     (c.if-not-on_earth.false) (short_memory 3 _ _ _ c.if-room-lt3.false h)

@@ -9,12 +9,12 @@ pub returns-then-state-lt6 : goal.returns-then-state-lt6
 returns-then-state-lt6 c =
     room_short c.args.numbers.now c.args.marks.now c.args.time c.args.state.now c.if-state-lt6.true _ c.answer.ensures
 
-pub returns-in-Loaded : goal.returns-in-Loaded
-returns-in-Loaded c =
+pub returns-in-Some : goal.returns-in-Some
+returns-in-Some c =
     request_full c.args.numbers.now c.args.marks.now c.args.time c.args.state.now c.if-state-lt6.false _
-    (loaded c.args.numbers.now c.args.marks.now _ (sym c.load.ensures ∙ c.in-Loaded.is)) _ _ _ _ _ _ c.request.ensures (to_z-of_z w64 _ c.ranges.time) c.put_answer.ensures.value c.put_answer.ensures.numbers_after c.put_answer.ensures.marks_after c.put_answer.ensures.state_after
+    (loaded c.args.numbers.now c.args.marks.now _ (sym c.load.ensures ∙ c.in-Some.is)) _ _ _ _ _ _ c.request.ensures (to_z-of_z w64 _ c.ranges.time) c.put_answer.ensures.value c.put_answer.ensures.numbers_after c.put_answer.ensures.marks_after c.put_answer.ensures.state_after
 
-pub returns-in-RoomTooShort : goal.returns-in-RoomTooShort
-returns-in-RoomTooShort c =
+pub returns-in-None : goal.returns-in-None
+returns-in-None c =
     memory_short c.args.numbers.now c.args.marks.now c.args.time c.args.state.now c.if-state-lt6.false
-    (unloaded c.args.numbers.now c.args.marks.now (sym c.load.ensures ∙ c.in-RoomTooShort.is)) _ c.answer-in-RoomTooShort.ensures
+    (unloaded c.args.numbers.now c.args.marks.now (sym c.load.ensures ∙ c.in-None.is)) _ c.answer-in-None.ensures

@@ -21,7 +21,7 @@ returns-then-input c =
     (omega arith))
 
 pub slice_bounds-gather-end-2 : goal.slice_bounds-gather-end-2
-slice_bounds-gather-end-2 c = let m = c in length-take_of_le _ _ (omega (arith, m.at_most-end.ensures))
+slice_bounds-gather-end-2 c = let m = c in length-take_of_le _ _ (omega (arith, m.min-end.ensures))
 
 -- what waited has the newline
 pub returns-then-g : goal.returns-then-g
@@ -30,10 +30,10 @@ returns-then-g c =
     let m = g.before.before.before in
     let i = m in
     let s = i.args in
-    let w = waits_in s.failed.now s.input s.buffer.now s.line.now i.if-failed.false i.if-input.false m.at_most-end.ensures in
+    let w = waits_in s.failed.now s.input s.buffer.now s.line.now i.if-failed.false i.if-input.false m.min-end.ensures in
     record {
       next = rw (c.ended.ensures, w, i.if-failed.false)
-          (at_once s.buffer.now s.input.at m.at_most-end.result g.gather-g.ensures c.if-g.true refl (omega arith));
+          (at_once s.buffer.now s.input.at m.min-end.result g.gather-g.ensures c.if-g.true refl (omega arith));
       marked = λ k. k;
     }
 
@@ -46,8 +46,8 @@ returns c =
     let m = g.before.before.before in
     let i = m in
     let s = i.args in
-    let w = waits_in s.failed.now s.input s.buffer.now s.line.now i.if-failed.false i.if-input.false m.at_most-end.ensures in
+    let w = waits_in s.failed.now s.input s.buffer.now s.line.now i.if-failed.false i.if-input.false m.min-end.ensures in
     record {
-      next = rw w (on (drop s.input.at (take m.at_most-end.result s.buffer.now)) _ (sym g.gather-g.ensures.ended ∙ t.if-g.false) g.gather-g.ensures.put r.read_on.ensures);
+      next = rw w (on (drop s.input.at (take m.min-end.result s.buffer.now)) _ (sym g.gather-g.ensures.ended ∙ t.if-g.false) g.gather-g.ensures.put r.read_on.ensures);
       marked = λ k. absurd (false≢true (sym i.if-failed.false ∙ k));
     }

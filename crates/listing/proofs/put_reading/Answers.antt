@@ -4,11 +4,11 @@ use Rattle.text.specs.Output.{bytes}
 use Rattle.text.proofs.Pieces.{same}
 use Rattle.listing.proofs.put_reading.Goals as goal
 
-pub returns-in-Record : goal.returns-in-Record
+pub returns-in-Ok : goal.returns-in-Ok
 unfolding reading_text
-returns-in-Record c = same (sym (ap reading_text c.in-Record.is)) c.put_record.ensures
+returns-in-Ok c = same (sym (ap reading_text c.in-Ok.is)) c.put_record.ensures
 
-pub returns-in-Refused : goal.returns-in-Refused
+pub returns-in-Err : goal.returns-in-Err
 unfolding reading_text
-returns-in-Refused c =
-    same (ap (count (bytes "refused ")) c.number-n.ensures ∙ sym (ap reading_text c.in-Refused.is)) c.put_line.ensures
+returns-in-Err c =
+    same (ap (count (bytes "refused ")) c.number-n.ensures ∙ sym (ap reading_text c.in-Err.is)) c.put_line.ensures

@@ -1,5 +1,5 @@
-use mathlib.Core.Path.{ap, ◌∙◌}
-use lib.Seq.{sets}
+use Rattle.std.proofs.Common.{ap, ◌∙◌}
+use Rattle.std.proofs.lemmas.List.Edits.{sets}
 use Rattle.number_list.specs.Numbers.{Found, count_of}
 use Rattle.number_list.proofs.Reading.{no_bytes, after_first, no_blank}
 use Rattle.number_list.proofs.read_numbers.Goals as goal

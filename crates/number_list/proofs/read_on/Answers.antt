@@ -1,37 +1,27 @@
-use native.Mathlib.Omega.{arith}
-use mathlib.Core.Path.{refl, ◌∙◌}
-use lib.ListN.{drop, get_or}
+use Rattle.std.proofs.Common.{slice_index_or, arith}
 use Rattle.number_list.proofs.Reading.{begin, turn, rise, read, none, and_true, begun_some}
-use borrow.Author.Rules.{rules}
 use Rattle.number_list.proofs.read_on.Goals as goal
 
-pub loop-i-init : goal.loop-i-init
-loop-i-init c = (search rules, search rules, refl, begin (drop 1 c.args.s.now) c.args.row.now)
+pub loop-b-init : goal.loop-b-init
+loop-b-init c = record { begun_so_far = omega arith; to_do = begin c.args.s.now c.args.row.now }
 
-pub loop-i-preserved : goal.loop-i-preserved
-loop-i-preserved c =
-    let i = c.loop-i.i in
-    let b = get_or c.args.s.now i 0 in (
-      search rules,
-      rw c.step-t.ensures (omega (arith, rise c.loop-i.t b)),
-      c.store.auto.row ∙ c.loop-i.invariant.2,
-      rw (c.step-t.ensures, c.store.ensures) (turn _ c.args.s.now c.args.row.now c.loop-i.t c.loop-i.row i c.loop-i.invariant.3 (omega arith)),
-    )
+pub loop-b-preserved : goal.loop-b-preserved
+loop-b-preserved c =
+    let i = c.loop-b.b-index in
+    let b = slice_index_or c.args.s.now i 0 in
+    record {
+      begun_so_far = rw c.step-t.ensures (omega (arith, rise c.loop-b.t b));
+      to_do = rw (c.step-t.ensures, c.store.ensures) (turn _ c.args.s.now c.args.row.now c.loop-b.t c.loop-b.row i c.loop-b.invariant.to_do (omega arith));
+    }
 
 pub overflow_add-result : goal.overflow_add-result
 overflow_add-result c =
-    omega (arith, begun_some c.loop-i.t c.loop-i.i c.loop-i.invariant.1 (and_true c.loop-i.t.good c.loop-i.t.some c.if-t.true).1)
-
-pub shape_of-row-then-t : goal.shape_of-row-then-t
-shape_of-row-then-t c = c.store-2.auto.row ∙ c.loop-i.invariant.2
+    omega (arith, begun_some c.loop-b.t c.loop-b.b-index c.loop-b.invariant.begun_so_far (and_true c.loop-b.t.good c.loop-b.t.some c.if-t.true).1)
 
 pub returns-then-t : goal.returns-then-t
 returns-then-t c =
-    read _ c.args.s.now c.args.row.now c.loop-i.t c.loop-i.row c.loop-i.i c.loop-i.invariant.3 c.loop-i-test.false _ c.store-2.ensures c.if-t.true
-
-pub shape_of-row : goal.shape_of-row
-shape_of-row c = c.store-2.auto.row ∙ c.loop-i.invariant.2
+    read _ c.args.s.now c.args.row.now c.loop-b.t c.loop-b.row c.loop-b.b-index c.loop-b.invariant.to_do c.loop-b-test.false _ c.store-2.ensures c.if-t.true
 
 pub returns : goal.returns
 returns c =
-    none _ c.args.s.now c.args.row.now c.loop-i.t c.loop-i.row c.loop-i.i c.loop-i.invariant.3 c.loop-i-test.false _ c.store-2.ensures c.if-t.false
+    none _ c.args.s.now c.args.row.now c.loop-b.t c.loop-b.row c.loop-b.b-index c.loop-b.invariant.to_do c.loop-b-test.false _ c.store-2.ensures c.if-t.false

@@ -1,8 +1,11 @@
+use Rattle.pass_edges.specs.Search.{middle}
 use Rattle.pass_edges.proofs.Steps.{halved_yes, halved_no}
 use Rattle.pass_edges.proofs.halved.Goals as goal
 
 pub returns-then-above : goal.returns-then-above
-returns-then-above c = halved_yes _ _ _ _ c.middle-m.ensures c.above.ensures c.if-above.true
+unfolding middle
+returns-then-above c = halved_yes _ _ _ _ c.midpoint-m.ensures c.above.ensures c.if-above.true
 
 pub returns : goal.returns
-returns c = halved_no _ _ _ _ c.middle-m.ensures c.above.ensures c.if-above.false
+unfolding middle
+returns c = halved_no _ _ _ _ c.midpoint-m.ensures c.above.ensures c.if-above.false

@@ -4,15 +4,9 @@ ghost use Rattle.std.specs.Prelude.{◌≡◌, false};
 ghost use Rattle.periodics.specs.Dpper as D;
 
 use crate::dpper::{Changes, Perturbed, applied, changes_at, inclined, lyddane_at, lyddane_point};
-use elementary::{atan2, sin_cos};
+use elementary::{Two, atan2, sin_cos};
 use instant::Minutes;
 use satellite::LunarSolar;
-
-#[derive(Clone, Copy)]
-pub struct PerturbedTwo {
-    pub first: Perturbed,
-    pub second: Perturbed,
-}
 
 // What is applied to a time's elements, with the sine and the cosine of their inclination.
 #[derive(Clone, Copy)]
@@ -24,7 +18,7 @@ pub struct Applying {
 }
 
 // Not by `atan2_two`: with a second caller it would be laid into neither, and every row be slower.
-fn lyddane_two(a: Applying, b: Applying) -> PerturbedTwo
+fn lyddane_two(a: Applying, b: Applying) -> Two<Perturbed>
     ensures { (result.first ≡ D.lyddane_of a.k a.x a.sinip a.cosip) × (result.second ≡ D.lyddane_of b.k b.x b.sinip b.cosip) }
 {
     let k = a.k;
@@ -37,10 +31,10 @@ fn lyddane_two(a: Applying, b: Applying) -> PerturbedTwo
     let node2 = atan2(p2.alfdp, p2.betdp);
     let first = lyddane_at(node, k, x, a.sinip, a.cosip);
     let second = lyddane_at(node2, k2, x2, b.sinip, b.cosip);
-    PerturbedTwo { first, second }
+    Two { first, second }
 }
 
-fn applied_two(a: Applying, b: Applying) -> PerturbedTwo
+fn applied_two(a: Applying, b: Applying) -> Two<Perturbed>
     ensures { (result.first ≡ D.applied_of a.k a.x a.sinip a.cosip) × (result.second ≡ D.applied_of b.k b.x b.sinip b.cosip) }
 {
     let k = a.k;
@@ -50,7 +44,7 @@ fn applied_two(a: Applying, b: Applying) -> PerturbedTwo
     if (x.inclp >= 0.2) | (x2.inclp >= 0.2) {
         let first = applied(k, x, a.sinip, a.cosip);
         let second = applied(k2, x2, b.sinip, b.cosip);
-        return PerturbedTwo { first, second };
+        return Two { first, second };
     }
     lyddane_two(a, b)
 }
@@ -62,7 +56,7 @@ pub fn dpper_two(
     x: Perturbed,
     t2: Minutes,
     x2: Perturbed,
-) -> PerturbedTwo
+) -> Two<Perturbed>
     ensures { (result.first ≡ D.dpper_of false ls t x) × (result.second ≡ D.dpper_of false ls t2 x2) }
 {
     let k = changes_at(ls, t.0);

@@ -10,18 +10,6 @@ use Rattle.record_numbers.proofs.numbers_of.Goals as goal
 pub plus-requires-2 : goal.plus-requires-2
 plus-requires-2 c = omega (arith, c.letter_of.ensures, class_byte c.args.r.class)
 
-pub plus-requires-3 : goal.plus-requires-3
-plus-requires-3 c = omega (arith, ap (λ d. d.launch) c.places_of-d.ensures)
-
-pub plus-requires-4 : goal.plus-requires-4
-plus-requires-4 c = omega (arith, ap (λ d. d.a) c.places_of-d.ensures)
-
-pub plus-requires-5 : goal.plus-requires-5
-plus-requires-5 c = omega (arith, ap (λ d. d.b) c.places_of-d.ensures)
-
-pub plus-requires-6 : goal.plus-requires-6
-plus-requires-6 c = omega (arith, ap (λ d. d.c) c.places_of-d.ensures)
-
 pub returns : goal.returns
 unfolding numbers_of
 returns c =

@@ -2,10 +2,10 @@ use Rattle.report.specs.Report.{instant_of}
 use borrow.Author.Rules.{rules}
 use Rattle.report.proofs.instant_of.Goals as goal
 
-pub returns-in-At : goal.returns-in-At
+pub returns-in-Some : goal.returns-in-Some
 unfolding instant_of
-returns-in-At c = search rules
+returns-in-Some c = search rules
 
-pub returns-in-Outside : goal.returns-in-Outside
+pub returns-in-None : goal.returns-in-None
 unfolding instant_of
-returns-in-Outside c = search rules
+returns-in-None c = search rules

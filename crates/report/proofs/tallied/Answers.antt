@@ -4,14 +4,14 @@ use Rattle.tle.proofs.Meaning.{passed_up, gone_on_lem}
 use Rattle.report.specs.State.{with_reading, tallied}
 use Rattle.report.proofs.tallied.Goals as goal
 
-pub returns-in_default : goal.returns-in_default
+pub returns-in-Err : goal.returns-in-Err
 unfolding tallied with_reading
-returns-in_default c =
+returns-in-Err c =
     c.with_refusal.ensures ∙ ap (S.with_refusal _) c.number.ensures
-    ∙ ap (S.with_reading _) (passed_up _ _ c.read_form-form.ensures c.in_default.is c.refusal.ensures)
+    ∙ ap (S.with_reading _) (passed_up _ _ c.read_form.ensures c.in-Err.is)
 
 pub returns : goal.returns
 unfolding tallied
 returns c =
     c.with_reading.ensures
-    ∙ ap (S.with_reading _) (gone_on_lem _ _ c.read_form-form.ensures c.in-Fields.is c.read_meaning.ensures)
+    ∙ ap (S.with_reading _) (gone_on_lem _ _ c.read_form.ensures c.in-Ok.is c.read_meaning.ensures)

@@ -1,5 +1,6 @@
 use mathlib.Core.Path.{refl, ap}
-use Rattle.sgp4.specs.declared.pairs.Rows.{Rows}
+use Rattle.elementary.specs.Two.{Two}
+use Rattle.sgp4.specs.declared.Row.{Row}
 use Rattle.resonance.proofs.Handed.{unknown_right, unknown_place}
 use Rattle.requests.proofs.Answers.{one_then, both_true, in_range_lem, advance_of_lem, carried_advance, carried_on, carried_stays_right, held_rows}
 use Rattle.requests.proofs.ask_two.Goals as goal
@@ -13,8 +14,8 @@ returns-then-in_range c =
     let right = carried_stays_right _ _ _ _ r a.carry-a.ensures in
     let rows = held_rows _ _ _ _ _ _ (carried_on _ _ _ _ r a.carry-a.ensures) (carried_on _ _ _ _ right c.carry-b.ensures) c.rows_at-rows.ensures in record {
       two_value = one_then _ _ _ _ _ _
-          (in_range_lem _ _ _ _ (advance_of_lem a.carry-a.result) _ i.in_range.ensures n.0 (carried_advance _ _ _ _ r a.carry-a.ensures) (ap (λ (z : Rows). z.first) rows))
-          (in_range_lem _ _ _ _ (advance_of_lem c.carry-b.result) _ i.in_range-2.ensures n.1 (carried_advance _ _ _ _ right c.carry-b.ensures) (ap (λ (z : Rows). z.second) rows));
+          (in_range_lem _ _ _ _ (advance_of_lem a.carry-a.result) _ i.in_range.ensures n.0 (carried_advance _ _ _ _ r a.carry-a.ensures) (ap (λ (z : Two Row). z.first) rows))
+          (in_range_lem _ _ _ _ (advance_of_lem c.carry-b.result) _ i.in_range-2.ensures n.1 (carried_advance _ _ _ _ right c.carry-b.ensures) (ap (λ (z : Two Row). z.second) rows));
       place_value = refl;
       right = carried_stays_right _ _ _ _ right c.carry-b.ensures;
     }

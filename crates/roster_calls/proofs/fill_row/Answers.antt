@@ -11,11 +11,11 @@ returns-in_default c =
 pub returns-then-row-ne64 : goal.returns-then-row-ne64
 returns-then-row-ne64 c =
     let a = c.args in
-    let s = scan_found 0 a.roster.now c.scan_buffer-s.result _ c.scan_buffer-s.ensures c.in-Roster.is in
+    let s = scan_found 0 a.roster.now c.scan_buffer-s.result _ c.scan_buffer-s.ensures c.in-Some.is in
     fill_short a.roster.now a.row.now s.0 s.1 c.if-row-ne64.true
 
 pub returns : goal.returns
 returns c =
     let a = c.args in
-    let s = scan_found 0 a.roster.now c.scan_buffer-s.result _ c.scan_buffer-s.ensures c.in-Roster.is in
-    fill_done a.roster.now a.row.now s.0 s.1 c.store_row.new.row c.if-row-ne64.false (c.store_row.ensures ∙ s.2)
+    let s = scan_found 0 a.roster.now c.scan_buffer-s.result _ c.scan_buffer-s.ensures c.in-Some.is in
+    fill_done a.roster.now a.row.now s.0 s.1 c.copy_from_slice.new.self c.if-row-ne64.false (c.copy_from_slice.ensures.after ∙ s.2)

@@ -1,6 +1,5 @@
 use Prim.Native.Nat.{ℕ, ◌+◌, ◌-◌, ◌*◌}
-use mathlib.Core.Path.{refl, sym, ap, ◌∙◌}
-use native.Mathlib.Omega.{arith}
+use mathlib.Core.Path.{sym, ap, ◌∙◌}
 use borrow.Author.Tests.{ltb-true, ltb-false}
 use lib.Dec.{leb, ltb}
 use lib.ListN.{drop}
@@ -11,7 +10,7 @@ use Rattle.roster_script.proofs.fits.Goals as goal
 pub returns-then-exceeds : goal.returns-then-exceeds
 returns-then-exceeds c =
     let a = c.args in
-    fits_not a.calls.now c.loop-j.j c.loop-j-test.true a.room c.loop-j.left c.loop-j.invariant.1 (ltb-true _ _ (sym c.exceeds.ensures ∙ c.if-exceeds.true))
+    fits_not a.calls.now c.loop-j.j c.loop-j-test.true a.room c.loop-j.left c.loop-j.invariant (ltb-true _ _ (sym c.exceeds.ensures ∙ c.if-exceeds.true))
 
 pub lines_taken-left-requires : goal.lines_taken-left-requires
 lines_taken-left-requires c = ltb-false _ _ (sym c.exceeds.ensures ∙ c.if-exceeds.false)
@@ -24,16 +23,11 @@ overflow_sub-left c =
 
 pub loop-j-preserved : goal.loop-j-preserved
 loop-j-preserved c =
-    let a = c.args in (
-      omega arith,
-      fits_more a.calls.now c.loop-j.j c.loop-j-test.true a.room c.loop-j.left c.loop-j.invariant.1 (ltb-false _ _ (sym c.exceeds.ensures ∙ c.if-exceeds.false))
-          ∙ ap (λ (n : ℕ). leb (needed (drop (3 * (c.loop-j.j + 1)) a.calls.now)) (c.loop-j.left - n)) (sym c.lines_taken-left.ensures),
-    )
+    let a = c.args in
+    fits_more a.calls.now c.loop-j.j c.loop-j-test.true a.room c.loop-j.left c.loop-j.invariant (ltb-false _ _ (sym c.exceeds.ensures ∙ c.if-exceeds.false))
+    ∙ ap (λ (n : ℕ). leb (needed (drop (3 * (c.loop-j.j + 1)) a.calls.now)) (c.loop-j.left - n)) (sym c.lines_taken-left.ensures)
 
 pub returns : goal.returns
 returns c =
     let a = c.args in
-    fits_all a.calls.now c.loop-j.j a.room c.loop-j.left c.loop-j.invariant.1 c.loop-j-test.false
-
-pub loop-j-init : goal.loop-j-init
-loop-j-init c = (omega arith, refl)
+    fits_all a.calls.now c.loop-j.j a.room c.loop-j.left c.loop-j.invariant c.loop-j-test.false

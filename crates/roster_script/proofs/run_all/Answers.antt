@@ -27,24 +27,12 @@ overflow_add-at c =
     let h = lines_there (lent a.roster.now a.row.now) a.calls.now a.text.now a.answers.now (lent c.loop-j.roster c.loop-j.row) c.loop-j.answers c.loop-j.at c.loop-j.j c.loop-j.invariant c.loop-j-test.true in
     record { fits = omega (arith, c.lines_taken-at.ensures, h) }
 
-pub loop-j-smaller : goal.loop-j-smaller
-loop-j-smaller c = omega (arith, c.loop-j-test.true)
-
 pub loop-j-preserved : goal.loop-j-preserved
 loop-j-preserved c =
     let a = c.args in
     along_more (lent a.roster.now a.row.now) a.calls.now a.text.now a.answers.now (lent c.loop-j.roster c.loop-j.row) c.loop-j.answers c.loop-j.at c.loop-j.j c.loop-j.invariant c.loop-j-test.true
     c.step.result c.lines_taken-at.result (lent c.step.new.roster c.step.new.row) c.step.ensures c.step.auto.roster c.step.auto.row
     c.lines_taken-at.ensures (omega (arith, c.loop-j.invariant.room, c.requires.1, c.loop-j-test.true))
-
-pub shape_of-roster : goal.shape_of-roster
-shape_of-roster c = c.loop-j.invariant.size
-
-pub shape_of-row : goal.shape_of-row
-shape_of-row c = c.loop-j.invariant.width
-
-pub shape_of-answers : goal.shape_of-answers
-shape_of-answers c = c.loop-j.invariant.room
 
 pub returns : goal.returns
 returns c =

@@ -1,12 +1,7 @@
-use Prim.Native.Nat.{◌-◌, ◌/◌}
-use lib.ListN.{length}
 use Rattle.roster_script.specs.Total.{lent}
 use Rattle.roster_script.proofs.Scripts.{Along}
 use Rattle.roster_script.proofs.run_all.Given as goal
 
--- The invariant: what is left of the script, from the memory and the room as they are, is the whole.
+-- what is left of the script, from the memory and the room as they are, is the whole
 abbrev pub invariant-loop-j : goal.invariant-loop-j
 invariant-loop-j l = Along (lent l.initial.roster l.initial.row) l.calls l.text l.initial.answers (lent l.roster l.row) l.answers l.at l.j
-
-abbrev pub decreases-loop-j : goal.decreases-loop-j
-decreases-loop-j l = length l.calls / 3 - l.j

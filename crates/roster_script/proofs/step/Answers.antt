@@ -9,13 +9,13 @@ pub returns-then-kind-eq1 : goal.returns-then-kind-eq1
 returns-then-kind-eq1 c =
     let a = c.args in
     called (lent a.roster.now a.row.now) _ _ _ _ (call_withdraw a.kind a.a a.b _ c.if-kind-eq1.true)
-    (c.number.ensures ∙ ap withdrawal_number c.withdraw.ensures.0, lent_as _ _ _ _ c.withdraw.ensures.1 c.withdraw.ensures.2)
+    (c.withdrawal_number.ensures ∙ ap withdrawal_number c.withdraw.ensures.0, lent_as _ _ _ _ c.withdraw.ensures.1 c.withdraw.ensures.2)
 
 pub returns-then-kind-ne0 : goal.returns-then-kind-ne0
 returns-then-kind-ne0 c =
     let a = c.args in
     called (lent a.roster.now a.row.now) _ _ _ _ (call_fill a.kind a.a a.b _ c.if-kind-eq1.false c.if-kind-ne0.true)
-    (c.number-then-kind-ne0.ensures ∙ ap filling_number c.fill_row.ensures.0, lent_as _ _ _ _ refl c.fill_row.ensures.1)
+    (c.filling_number.ensures ∙ ap filling_number c.fill_row.ensures.0, lent_as _ _ _ _ refl c.fill_row.ensures.1)
 
 pub overflow_add-half : goal.overflow_add-half
 overflow_add-half c =
@@ -35,4 +35,4 @@ pub returns : goal.returns
 returns c =
     let a = c.args in
     called (lent a.roster.now a.row.now) _ _ _ _ (call_lodge a.kind a.a a.b a.at a.text.now c.if-kind-ne0.false)
-    (c.number-2.ensures ∙ ap lodging_number c.lodge.ensures.0, lent_as _ _ _ _ c.lodge.ensures.1 c.lodge.ensures.2)
+    (c.lodging_number.ensures ∙ ap lodging_number c.lodge.ensures.0, lent_as _ _ _ _ c.lodge.ensures.1 c.lodge.ensures.2)

@@ -1,32 +1,20 @@
-use Prim.Native.Nat.{◌+◌}
-use mathlib.Core.Path.{refl, sym, ap, ◌∙◌}
-use native.Mathlib.Omega.{arith}
-use lib.ListN.{drop}
+use Rattle.std.proofs.Common.{sym, ap, ◌∙◌, ◌+◌, drop, arith}
 use Rattle.script_room.specs.Room.{roomy}
 use Rattle.script_room.proofs.Room.{roomy_step, roomy_fails, roomy_all}
 use Rattle.script_room.proofs.roomy.Goals as goal
 
 pub returns-then-n-left : goal.returns-then-n-left
 returns-then-n-left c =
-    let l = c in
-    let a = l.args in
-    roomy_fails a.lengths.now l.loop-i.i 0 a.room l.loop-i.left (omega arith) l.loop-i.invariant.1 c.if-n-left.true
+    let l = c.loop-n in
+    roomy_fails c.args.lengths.now l.n-index 0 c.args.room l.left (omega arith) l.invariant c.if-n-left.true
 
-pub loop-i-preserved : goal.loop-i-preserved
-loop-i-preserved c =
-    let t = c.before in
-    let e = t.before in
-    let l = e in
-    let a = l.args in (
-      omega arith,
-      roomy_step a.lengths.now l.loop-i.i 0 a.room l.loop-i.left t.taken.result (omega arith) l.loop-i.invariant.1 t.taken.ensures e.if-n-left.false
-          ∙ sym (ap (roomy (drop (l.loop-i.i + 1) a.lengths.now)) c.less-left.ensures),
-    )
+pub loop-n-preserved : goal.loop-n-preserved
+loop-n-preserved c =
+    let l = c.loop-n in
+    roomy_step c.args.lengths.now l.n-index 0 c.args.room l.left c.taken.result (omega arith) l.invariant c.taken.ensures c.if-n-left.false
+    ∙ sym (ap (roomy (drop (l.n-index + 1) c.args.lengths.now)) c.saturating_sub-left.ensures)
 
 pub returns : goal.returns
 returns c =
-    let a = c.args in
-    roomy_all a.lengths.now c.loop-i.i a.room c.loop-i.left c.loop-i.invariant.0 (omega arith) c.loop-i.invariant.1
-
-pub loop-i-init : goal.loop-i-init
-loop-i-init c = (omega arith, refl)
+    let l = c.loop-n in
+    roomy_all c.args.lengths.now l.n-index c.args.room l.left (omega arith) (omega arith) l.invariant

@@ -2,11 +2,11 @@ use mathlib.Core.Path.{sym, ap, ◌∙◌}
 use Rattle.sgp4.specs.Row.{refused_row, row_of}
 use Rattle.sgp4.proofs.row_of.Goals as goal
 
-pub returns-in-Given : goal.returns-in-Given
+pub returns-in-Ok : goal.returns-in-Ok
 unfolding row_of
-returns-in-Given c = sym (ap row_of c.in-Given.is)
+returns-in-Ok c = sym (ap row_of c.in-Ok.is)
 
-pub returns-in-Refused : goal.returns-in-Refused
+pub returns-in-Err : goal.returns-in-Err
 unfolding row_of
-returns-in-Refused c =
-    c.refused_row.ensures ∙ ap refused_row c.number.ensures ∙ sym (ap row_of c.in-Refused.is)
+returns-in-Err c =
+    c.refused_row.ensures ∙ ap refused_row c.number.ensures ∙ sym (ap row_of c.in-Err.is)

@@ -9,7 +9,7 @@ use periodics::dpper::dpper;
 use resonance::dspace::dspace_by;
 use resonance::held::Held;
 use satellite::{DeepSpace, LunarSolar, NearEarth};
-use state::parts::{Mean, Ready, ReadyPair, Secular};
+use state::parts::{Mean, Ready, Secular};
 use state::secular::{angles, mean, no_motion, outside, secular};
 use wgs72::xke;
 
@@ -27,11 +27,11 @@ fn perturbed_two(
     am: f64,
     x2: periodics::dpper::Perturbed,
     am2: f64,
-) -> ReadyPair
+) -> Option<(Ready, Ready)>
     ensures { result ≡ W.perturbed_two x am x2 am2 }
 {
     if no_ellipse(x.ep) | no_ellipse(x2.ep) {
-        return ReadyPair::Apart;
+        return None;
     }
     let ip = sin_cos(x.inclp);
     let ip2 = sin_cos(x2.inclp);
@@ -39,17 +39,17 @@ fn perturbed_two(
     let k = anew(ip.sin, ip.cos);
     let p2 = inclined(x2, ip2.sin, ip2.cos);
     let k2 = anew(ip2.sin, ip2.cos);
-    ReadyPair::Both(
+    Some((
         Ready { p, am, k },
         Ready {
             p: p2,
             am: am2,
             k: k2,
         },
-    )
+    ))
 }
 
-fn averaged_two(ls: LunarSolar, n: f64, a: Drift, b: Drift) -> ReadyPair
+fn averaged_two(ls: LunarSolar, n: f64, a: Drift, b: Drift) -> Option<(Ready, Ready)>
     ensures { result ≡ W.averaged_two ls n a b }
 {
     let t = a.t;
@@ -59,7 +59,7 @@ fn averaged_two(ls: LunarSolar, n: f64, a: Drift, b: Drift) -> ReadyPair
     let g2 = b.g;
     let m2 = b.m;
     if outside(m) | outside(m2) {
-        return ReadyPair::Apart;
+        return None;
     }
     let x = averages(m.em, a.inclm, angles(n, g));
     let x2 = averages(m2.em, b.inclm, angles(n, g2));
@@ -77,11 +77,11 @@ fn moved_two(
     t2: Minutes,
     d2: resonance::dspace::Mean,
     g2: Secular,
-) -> ReadyPair
+) -> Option<(Ready, Ready)>
     ensures { result ≡ W.moved_two ls n t d g t2 d2 g2 }
 {
     if no_motion(d.nm) | no_motion(d2.nm) {
-        return ReadyPair::Apart;
+        return None;
     }
     let a = two_thirds(xke() / d.nm);
     let a2 = two_thirds(xke() / d2.nm);
@@ -104,7 +104,14 @@ fn moved_two(
 
 // The satellite at t and at t2, up to the long-period terms; `h` and `h2` are the positions of the
 // whole strides that these need, with the derivatives there.
-pub fn deep_two(s: NearEarth, d: DeepSpace, h: Held, t: Minutes, h2: Held, t2: Minutes) -> ReadyPair
+pub fn deep_two(
+    s: NearEarth,
+    d: DeepSpace,
+    h: Held,
+    t: Minutes,
+    h2: Held,
+    t2: Minutes,
+) -> Option<(Ready, Ready)>
     ensures { result ≡ W.deep_two s d h t h2 t2 }
 {
     let integrator = d.integrator;

@@ -1,5 +1,5 @@
 use mathlib.Core.Path.{ap, ◌∙◌}
-use Rattle.sightings.specs.declared.Sighting.TheVariants as sighting
+use Rattle.std.specs.Prelude.{Ok}
 use Rattle.sightings.specs.Sightings.{row_sighting}
 use Rattle.sightings.proofs.Views.{row_refused, row_answered}
 use Rattle.sightings.proofs.row_sighting.Goals as goal
@@ -10,4 +10,4 @@ returns-then-refusal-ne0 c = row_refused _ _ _ c.if-refusal-ne0.true
 
 pub returns : goal.returns
 unfolding row_sighting
-returns c = ap sighting.At c.look_angles.ensures ∙ row_answered _ _ _ c.if-refusal-ne0.false
+returns c = ap Ok c.look_angles.ensures ∙ row_answered _ _ _ c.if-refusal-ne0.false

@@ -4,14 +4,14 @@ use lib.Count.{count_trailing_zeros}
 use Rattle.sightings.specs.Sightings.{seen_since, seen_at}
 use Rattle.sightings.proofs.seen_at.Goals as goal
 
-pub returns-in-Is : goal.returns-in-Is
+pub returns-in-Some : goal.returns-in-Some
 unfolding seen_since seen_at
-returns-in-Is c =
+returns-in-Some c =
     let f = seen_since c.args.site c.args.satellite c.args.t.0 in
-    c.seen_since.ensures ∙ sym (ap f c.in-Is.is) ∙ ap f c.since-elapsed.ensures
+    c.seen_since.ensures ∙ sym (ap f c.in-Some.is) ∙ ap f c.since-elapsed.ensures
 
-pub returns-in-Outside : goal.returns-in-Outside
+pub returns-in-None : goal.returns-in-None
 unfolding seen_since seen_at round units odd size span climb count_trailing_zeros of_bits neg
-returns-in-Outside c =
+returns-in-None c =
     let f = seen_since c.args.site c.args.satellite c.args.t.0 in
-    sym (ap f c.in-Outside.is) ∙ ap f c.since-elapsed.ensures
+    sym (ap f c.in-None.is) ∙ ap f c.since-elapsed.ensures

@@ -6,12 +6,7 @@ ghost use Rattle.state.specs.Two as W;
 
 use crate::kepler::{begun, corrected, unsettled};
 use crate::parts::{Anomaly, Long};
-
-#[derive(Clone, Copy)]
-pub struct Anomalies {
-    pub first: Anomaly,
-    pub second: Anomaly,
-}
+use elementary::Two;
 
 // The k-th round, where one is left to do.
 fn gone_on(q: Long, a: Anomaly, k: u8) -> Anomaly
@@ -23,25 +18,22 @@ fn gone_on(q: Long, a: Anomaly, k: u8) -> Anomaly
     a
 }
 
-pub fn kepler_two(q: Long, q2: Long) -> Anomalies
+pub fn kepler_two(q: Long, q2: Long) -> Two<Anomaly>
     ensures { (result.first ≡ P.kepler q) × (result.second ≡ P.kepler q2) }
 {
     let mut a = begun(q);
     let mut b = begun(q2);
-    let mut n = 0u8;
-    while n < 10 {
-        if unsettled(a) | unsettled(b) {
-            n += 1;
-            a = gone_on(q, a, n);
-            b = gone_on(q2, b, n);
-        } else {
-            return Anomalies {
+    for n in 0..10 {
+        if !(unsettled(a) | unsettled(b)) {
+            return Two {
                 first: a,
                 second: b,
             };
         }
+        a = gone_on(q, a, n + 1);
+        b = gone_on(q2, b, n + 1);
     }
-    Anomalies {
+    Two {
         first: a,
         second: b,
     }

@@ -4,32 +4,32 @@
 ghost use Rattle.std.specs.Prelude.{◌≡◌};
 ghost use Rattle.state.specs.Two as W;
 
-use crate::answer::Pair;
+use crate::answer::Answer;
 use crate::kepler::pairs::kepler_two;
 use crate::orientation::state;
-use crate::parts::{Mean, Planes, Ready, ReadyPair, Secular, Short, Solved};
+use crate::parts::{Mean, Plane, Ready, Secular, Short, Solved};
 use crate::periodics::{
     ahead, decayed, in_plane, latus, long_period, negative_latus, plane_of, short_period,
 };
 use crate::secular::{angles, mean, no_motion, outside, secular};
 use crate::sgp4::{given, unperturbed};
-use elementary::atan2_two;
+use elementary::{Two, atan2_two};
 use instant::Minutes;
 use satellite::NearEarth;
 
-fn placed_two(s: Short, k: u8, u: Short, n: u8) -> Pair
+fn placed_two(s: Short, k: u8, u: Short, n: u8) -> Option<(Answer, Answer)>
     ensures { result ≡ W.placed_two s k u n }
 {
     if decayed(s) | decayed(u) {
-        return Pair::Apart;
+        return None;
     }
     let a = state(s);
     let b = state(u);
-    Pair::Both(given(a, k), given(b, n))
+    Some((given(a, k), given(b, n)))
 }
 
 // Both in their planes.
-fn planes(a: Solved, b: Solved) -> Planes
+fn planes(a: Solved, b: Solved) -> Two<Plane>
     ensures { (result.first ≡ W.plane_solved a) × (result.second ≡ W.plane_solved b) }
 {
     let q = a.q;
@@ -45,10 +45,10 @@ fn planes(a: Solved, b: Solved) -> Planes
     let su = atan2_two(i.sinu, i.cosu, i2.sinu, i2.cosu);
     let first = plane_of(i, su.first, l, ahead.betal);
     let second = plane_of(i2, su.second, l2, ahead2.betal);
-    Planes { first, second }
+    Two { first, second }
 }
 
-fn shortened_two(a: Solved, b: Solved) -> Pair
+fn shortened_two(a: Solved, b: Solved) -> Option<(Answer, Answer)>
     ensures { result ≡ W.shortened_two a b }
 {
     let p = a.p;
@@ -58,7 +58,7 @@ fn shortened_two(a: Solved, b: Solved) -> Pair
     let k2 = b.k;
     let l2 = b.l;
     if negative_latus(l) | negative_latus(l2) {
-        return Pair::Apart;
+        return None;
     }
     let both = planes(a, b);
     let c = both.first;
@@ -69,7 +69,7 @@ fn shortened_two(a: Solved, b: Solved) -> Pair
 }
 
 // From the long-period terms on.
-fn periodics_two(a: Ready, b: Ready) -> Pair
+fn periodics_two(a: Ready, b: Ready) -> Option<(Answer, Answer)>
     ensures { result ≡ W.periodics_two a b }
 {
     let p = a.p;
@@ -108,44 +108,44 @@ fn periodics_two(a: Ready, b: Ready) -> Pair
     shortened_two(first, second)
 }
 
-// The answers for two times that are ready for the long-period terms.
-pub fn pair_of(r: ReadyPair) -> Pair
+// The answers for two times that are ready for the long-period terms; None where either may be refused.
+#[tactic(auto, unfolding(crate::specs::Two::pair_of))]
+pub fn pair_of(r: Option<(Ready, Ready)>) -> Option<(Answer, Answer)>
     ensures { result ≡ W.pair_of r }
 {
-    match r {
-        ReadyPair::Both(a, b) => periodics_two(a, b),
-        ReadyPair::Apart => Pair::Apart,
-    }
+    let (a, b) = r?;
+    periodics_two(a, b)
 }
 
-fn averaged_two(s: NearEarth, g: Secular, m: Mean, g2: Secular, m2: Mean) -> ReadyPair
+fn averaged_two(s: NearEarth, g: Secular, m: Mean, g2: Secular, m2: Mean) -> Option<(Ready, Ready)>
     ensures { result ≡ W.averaged_two s g m g2 m2 }
 {
     if outside(m) | outside(m2) {
-        return ReadyPair::Apart;
+        return None;
     }
     let no = s.elements.no;
     let k = s.terms;
     let p = unperturbed(s, m.em, angles(no, g));
     let p2 = unperturbed(s, m2.em, angles(no, g2));
-    ReadyPair::Both(
+    Some((
         Ready { p, am: m.am, k },
         Ready {
             p: p2,
             am: m2.am,
             k,
         },
-    )
+    ))
 }
 
-// A near-Earth satellite at two times since the epoch, up to the long-period terms.
-pub fn ready_two(s: NearEarth, t: Minutes, t2: Minutes) -> ReadyPair
+// A near-Earth satellite at two times since the epoch, up to the long-period terms; None where either is
+// refused.
+pub fn ready_two(s: NearEarth, t: Minutes, t2: Minutes) -> Option<(Ready, Ready)>
     ensures { result ≡ W.ready_two s t t2 }
 {
     let g = secular(s, t);
     let g2 = secular(s, t2);
     if no_motion(s.elements.no) {
-        return ReadyPair::Apart;
+        return None;
     }
     let ao = s.kept.ao;
     let ecco = s.elements.ecco;

@@ -7,7 +7,8 @@ use lib.Dec.{eqb}
 use lib.ListN.{length, get_or}
 use lib.Ieee.{Float}
 use Rattle.satellite.specs.declared.NearEarth.{NearEarth}
-use Rattle.storage.specs.declared.NearLoading.TheVariants.{Loaded, DeepSpace, RoomTooShort}
+use Rattle.std.specs.Prelude.{Err, Ok}
+use Rattle.storage.specs.declared.NearRefusal.TheVariants as unloaded
 use Rattle.storage.specs.Storage.{near_earth_at}
 use Rattle.storage.specs.Near.{near_short, near_kind, near_loading_of}
 use Rattle.storage.proofs.Short.{enough}
@@ -15,12 +16,12 @@ use borrow.Author.Tests.{lt-ltb, le-ltb, eq-eqb, ne_eqb}
 use Rattle.storage.proofs.load_near.Goals as goal
 
 loads : (ns : List Float) (ms : List ℕ) (n : NearEarth) → 36 ≤ length ns → 6 ≤ length ms → get_or ms 3 0 ≡ 0 → n ≡ near_earth_at ns (not (eqb (get_or ms 2 0) 0))
-    → Loaded n ≡ near_loading_of ns ms
+    → Ok n ≡ near_loading_of ns ms
 unfolding near_loading_of
 loads ns ms n h k z e =
-    let near = Loaded (near_earth_at ns (not (eqb (get_or ms 2 0) 0))) in
-    ap Loaded e
-    ∙ sym (ap (λ (b : Bool). cond b RoomTooShort (cond (near_kind ms) near DeepSpace)) (enough (length ns) (length ms) h k) ∙ ap (λ (b : Bool). cond b near DeepSpace) (eq-eqb (get_or ms 3 0) 0 z))
+    let near = Ok (near_earth_at ns (not (eqb (get_or ms 2 0) 0))) in
+    ap Ok e
+    ∙ sym (ap (λ (b : Bool). cond b (Err unloaded.RoomTooShort) (cond (near_kind ms) near (Err unloaded.DeepSpace))) (enough (length ns) (length ms) h k) ∙ ap (λ (b : Bool). cond b near (Err unloaded.DeepSpace)) (eq-eqb (get_or ms 3 0) 0 z))
 
 pub returns-then-numbers-lt36 : goal.returns-then-numbers-lt36
 unfolding near_loading_of near_short

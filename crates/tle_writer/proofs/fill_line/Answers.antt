@@ -1,3 +1,4 @@
+use Rattle.std.proofs.lemmas.List.{length-take-le}
 use mathlib.Core.Path.{sym, ◌∙◌}
 use native.Mathlib.Omega.{arith}
 use Rattle.tle_writer.proofs.Writes.{illegal, short, written}
@@ -17,4 +18,7 @@ pub returns : goal.returns
 returns c =
     let a = c.args in
     let w = written a.r a.which a.out.now (sym c.legal.ensures ∙ c.if-not-legal.false) (omega arith) in
-    (w.0, c.put_front.ensures ∙ rw c.line_of.ensures w.1)
+    (w.0, rw c.copy_from_slice.ensures.after (rw c.line_of.ensures w.1))
+
+pub copy_from_slice-requires : goal.copy_from_slice-requires
+copy_from_slice-requires c = omega (arith, length-take-le 69 c.args.out.now c.if-out-lt69.false)

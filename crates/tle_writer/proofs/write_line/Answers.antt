@@ -1,8 +1,8 @@
 use mathlib.Core.Path.{◌≡◌, sym, refl, ap, ◌∙◌}
 use denote.Ref.{at_last}
 use Rattle.tle_writer.specs.Write.{number_of, writing_of}
-use Rattle.tle_writer.specs.declared.Writing.{Writing}
-use Rattle.tle_writer.specs.declared.Writing.TheVariants.{Written}
+use Rattle.std.specs.Prelude.{Ok, Result}
+use Rattle.tle_writer.specs.declared.WritingRefusal.{WritingRefusal}
 use Rattle.tle_writer.proofs.Writes.{refused, zero_written, front, front_long, exactly}
 use Rattle.tle_writer.proofs.write_line.Tie as tie
 use Rattle.tle_writer.proofs.write_line.Lts as lts
@@ -11,13 +11,13 @@ use Rattle.tle_writer.proofs.write_line.Goals as goal
 
 -- The part is the front of what fill_line wrote, or the room that it left alone.
 -- the answer, its number, and that 0 is Written
-abbrev answer : (lts.After-number tie.the-claims reads.Pre reads.Post tie.handed_clauses) → Writing
+abbrev answer : (lts.After-writing_number tie.the-claims reads.Pre reads.Post tie.handed_clauses) → Result (Unit {0}) WritingRefusal
 answer c = let a = c.args in writing_of a.r a.out.now
 
-told : (c : (lts.After-number tie.the-claims reads.Pre reads.Post tie.handed_clauses)) → c.number-k.result ≡ number_of (answer c)
-told c = c.number-k.ensures ∙ ap number_of c.fill_line.ensures.0
+told : (c : (lts.After-writing_number tie.the-claims reads.Pre reads.Post tie.handed_clauses)) → c.writing_number-k.result ≡ number_of (answer c)
+told c = c.writing_number-k.ensures ∙ ap number_of c.fill_line.ensures.0
 
-written : (c : (lts.After-number tie.the-claims reads.Pre reads.Post tie.handed_clauses)) → c.number-k.result ≡ 0 → answer c ≡ Written
+written : (c : (lts.After-writing_number tie.the-claims reads.Pre reads.Post tie.handed_clauses)) → c.writing_number-k.result ≡ 0 → answer c ≡ Ok tt
 written c z = zero_written (answer c) (sym (told c) ∙ z)
 
 pub returns-then-k-ne0 : goal.returns-then-k-ne0

@@ -1,12 +1,9 @@
-use native.Mathlib.Omega.{arith}
-use Rattle.windows.proofs.Refusing.{few_here, enough_here}
+use Rattle.std.proofs.Common.{◌≡◌, ◌+◌, ◌/◌, arith}
+use Rattle.windows.specs.Windows.{few_places}
 use Rattle.windows.proofs.few_places.Goals as goal
 
-pub returns-then-a-half : goal.returns-then-a-half
-returns-then-a-half c = few_here _ _ (omega arith)
-
-pub returns-then-b-half : goal.returns-then-b-half
-returns-then-b-half c = few_here _ _ (omega arith)
-
 pub returns : goal.returns
-returns c = enough_here _ _ (omega arith)
+unfolding few_places
+returns c =
+    let half : c.div_ceil.result ≡ (c.args.samples + 1) / 2 = omega arith in
+    rw (half, c.min.ensures)

@@ -26,27 +26,11 @@ overflow_add-t c =
     let g : c.args.step ≤ 86400 = omega arith in
     omega (arith, mul-le-mul h g)
 
-pub sees-requires : goal.sees-requires
-sees-requires c = tt
-
-pub further-run-requires : goal.further-run-requires
-further-run-requires c = tt
-
 pub put-n-requires : goal.put-n-requires
 put-n-requires c =
     let f = c.loop-i.invariant in
     let r = put_room _ _ _ _ _ _ _ _ _ _ f in
     record { on_in_bounds = omega (arith, r, f.len_a, f.room_a); on_in_bounds_2 = omega (arith, r, f.len_b, f.room_b); n_bound = omega (arith, f.few, f.upto) }
-
-pub overflow_add-i : goal.overflow_add-i
-overflow_add-i c =
-    let f = c.loop-i.invariant in
-    record { fits = omega (arith, f.upto) }
-
-pub loop-i-smaller : goal.loop-i-smaller
-loop-i-smaller c =
-    let t = c.loop-i-test.true in
-    omega (arith, t)
 
 pub loop-i-preserved : goal.loop-i-preserved
 loop-i-preserved c =

@@ -1,12 +1,7 @@
-use borrow.Author.Tests.{eq-eqb}
 use native.Mathlib.Omega.{arith}
 use Rattle.std.proofs.lemmas.Bool.Decides.{nat_tests}
 use Rattle.columns.specs.Sum.{digit_of}
 use Rattle.columns.proofs.digits.weight.Goals as goal
-
--- the minus
-pub returns-in-45 : goal.returns-in-45
-returns-in-45 c = (simp (eq-eqb _ _ c.in-45.is), omega arith)
 
 -- a digit
 pub returns-in-48-to-57 : goal.returns-in-48-to-57

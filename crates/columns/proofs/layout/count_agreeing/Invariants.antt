@@ -1,12 +1,9 @@
-use Prim.Native.Nat.{◌≤◌, ◌-◌, ◌+◌}
+use Prim.Native.Nat.{◌+◌}
 use mathlib.Core.Bool.{true}
 use mathlib.Core.Path.{◌≡◌}
-use lib.ListN.{length, drop}
+use lib.ListN.{drop}
 use Rattle.columns.specs.Layout.{agreed}
 use Rattle.columns.proofs.layout.count_agreeing.Given as goal
 
 abbrev pub invariant-loop-i : goal.invariant-loop-i
-invariant-loop-i l = (l.i ≤ length l.line) × (l.i + agreed (drop l.i l.layout) l.after (drop l.i l.line) ≡ agreed l.layout true l.line)
-
-abbrev pub decreases-loop-i : goal.decreases-loop-i
-decreases-loop-i l = length l.line - l.i
+invariant-loop-i l = l.i + agreed (drop l.i l.layout) l.after (drop l.i l.line) ≡ agreed l.layout true l.line

@@ -1,11 +1,7 @@
-use Prim.Native.Nat.{◌-◌}
 use mathlib.Core.Path.{◌≡◌}
 use mathlib.Core.Bool.{true}
 use lib.ListN.{length}
 use Rattle.ephemeris_answers.proofs.rows.add_times.Given as goal
 
-abbrev pub invariant-loop-i : goal.invariant-loop-i
-invariant-loop-i l = (length l.room ≡ length l.initial.room) × (l.initial.failed ≡ true → l.failed ≡ true)
-
-abbrev pub decreases-loop-i : goal.decreases-loop-i
-decreases-loop-i l = length l.times - l.i
+abbrev pub invariant-loop-time : goal.invariant-loop-time
+invariant-loop-time l = (length l.room ≡ length l.initial.room) × (l.initial.failed ≡ true → l.failed ≡ true)

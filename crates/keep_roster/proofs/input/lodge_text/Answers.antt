@@ -1,12 +1,7 @@
-use borrow.Author.Rules.{rules}
 use Rattle.keep_roster.proofs.input.lodge_text.Goals as goal
 
 pub returns-then-is_over : goal.returns-then-is_over
-returns-then-is_over c = λ e. c.print_total.ensures (c.next_step-next.ensures.reads.marked (c.loop-turns.invariant.4 e))
+returns-then-is_over c = λ e. c.print_total.ensures (c.next_step-next.ensures.reads.marked (c.loop.invariant e))
 
-pub loop-turns-preserved : goal.loop-turns-preserved
-loop-turns-preserved c =
-    (search rules, search rules, search rules, search rules, λ e. c.take_step-t.ensures (c.next_step-next.ensures.reads.marked (c.loop-turns.invariant.4 e)))
-
-pub returns : goal.returns
-returns c = c.loop-turns.invariant.4
+pub loop-preserved : goal.loop-preserved
+loop-preserved c = λ e. c.take_step-t.ensures (c.next_step-next.ensures.reads.marked (c.loop.invariant e))

@@ -1,10 +1,6 @@
 use mathlib.Core.Path.{◌≡◌}
 use mathlib.Core.Bool.{true}
-use lib.ListN.{length}
 use Rattle.keep_roster.proofs.input.lodge_text.Given as goal
 
-abbrev pub invariant-loop-turns : goal.invariant-loop-turns
-invariant-loop-turns l = (length l.buffer ≡ 4096) × (length l.line1 ≡ 4096) × (length l.line ≡ 4096) × (length l.out ≡ 256) × (l.initial.failed ≡ true → l.failed ≡ true)
-
-abbrev pub decreases-loop-turns : goal.decreases-loop-turns
-decreases-loop-turns l = l.turns
+abbrev pub invariant-loop : goal.invariant-loop
+invariant-loop l = l.initial.failed ≡ true → l.failed ≡ true

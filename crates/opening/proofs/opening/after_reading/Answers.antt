@@ -2,10 +2,10 @@ use mathlib.Core.Path.{sym, ap, ◌∙◌}
 use Rattle.opening.specs.Opening.{after_reading, opened}
 use Rattle.opening.proofs.opening.after_reading.Goals as goal
 
-pub returns-in-Record : goal.returns-in-Record
+pub returns-in-Ok : goal.returns-in-Ok
 unfolding after_reading
-returns-in-Record c = c.opened.ensures ∙ ap opened c.«open».ensures ∙ sym (ap after_reading c.in-Record.is)
+returns-in-Ok c = c.opened.ensures ∙ ap opened c.«open».ensures ∙ sym (ap after_reading c.in-Ok.is)
 
-pub returns-in-Refused : goal.returns-in-Refused
+pub returns-in-Err : goal.returns-in-Err
 unfolding after_reading
-returns-in-Refused c = sym (ap after_reading c.in-Refused.is)
+returns-in-Err c = sym (ap after_reading c.in-Err.is)

@@ -4,13 +4,13 @@ use Rattle.opening.proofs.Inside.{epoch_given}
 use Rattle.opening.proofs.opening.dated.Goals as goal
 
 pub started-requires : goal.started-requires
-started-requires c = epoch_given _ _ _ _ c.requires c.in-At.is
+started-requires c = epoch_given _ _ _ _ c.requires c.in-Some.is
 
-pub returns-in-At : goal.returns-in-At
+pub returns-in-Some : goal.returns-in-Some
 unfolding dated
-returns-in-At c =
-    rw (c.started.ensures, c.elements_of.ensures) (sym (ap (λ x. dated c.args.r x) c.in-At.is))
+returns-in-Some c =
+    rw (c.started.ensures, c.elements_of.ensures) (sym (ap (λ x. dated c.args.r x) c.in-Some.is))
 
-pub returns-in-Outside : goal.returns-in-Outside
+pub returns-in-None : goal.returns-in-None
 unfolding dated
-returns-in-Outside c = sym (ap (λ x. dated c.args.r x) c.in-Outside.is)
+returns-in-None c = sym (ap (λ x. dated c.args.r x) c.in-None.is)

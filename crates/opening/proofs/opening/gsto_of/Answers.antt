@@ -1,15 +1,6 @@
-use mathlib.Core.Path.{sym, ap, ◌∙◌}
-use lib.Ieee.{round, units, odd, size, span, climb, of_bits, neg}
-use lib.Count.{count_trailing_zeros}
-use Rattle.opening.proofs.Inside.{angle_in, angle_inside}
+use Rattle.instant.specs.Greenwich.{greenwich_at}
 use Rattle.opening.proofs.opening.gsto_of.Goals as goal
 
-pub returns-in-Is : goal.returns-in-Is
-unfolding angle_in
-returns-in-Is c =
-    ap angle_in (sym c.in-Is.is) ∙ angle_inside _ _ c.requires c.greenwich-angle.ensures
-
-pub returns-in-Outside : goal.returns-in-Outside
-unfolding angle_in round units odd size span climb count_trailing_zeros of_bits neg
-returns-in-Outside c =
-    ap angle_in (sym c.in-Outside.is) ∙ angle_inside _ _ c.requires c.greenwich-angle.ensures
+pub returns : goal.returns
+unfolding greenwich_at
+returns c = simp (c.unwrap_or.ensures, c.greenwich.ensures, c.requires)

@@ -2,10 +2,10 @@ use mathlib.Core.Path.{sym, ap}
 use Rattle.opening.specs.Opening.{opened}
 use Rattle.opening.proofs.opening.opened.Goals as goal
 
-pub returns-in-Opened : goal.returns-in-Opened
+pub returns-in-Ok : goal.returns-in-Ok
 unfolding opened
-returns-in-Opened c = ap opened (sym c.in-Opened.is)
+returns-in-Ok c = ap opened (sym c.in-Ok.is)
 
-pub returns-in-Refused : goal.returns-in-Refused
+pub returns-in-Err : goal.returns-in-Err
 unfolding opened
-returns-in-Refused c = ap opened (sym c.in-Refused.is)
+returns-in-Err c = ap opened (sym c.in-Err.is)

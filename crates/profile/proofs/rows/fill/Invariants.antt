@@ -1,11 +1,6 @@
-use Prim.Native.Nat.{◌-◌}
-use lib.ListN.{length}
 use Rattle.profile.proofs.Filling.{Filling}
 use Rattle.profile.proofs.rows.fill.Given as goal
 
 -- The invariant is `Filling`, whose laws say how it starts, goes on and ends.
 abbrev pub invariant-loop-i : goal.invariant-loop-i
 invariant-loop-i l = Filling l.near l.times l.initial.refusals l.initial.states l.initial.rounds l.refusals l.states l.rounds l.any l.i
-
-abbrev pub decreases-loop-i : goal.decreases-loop-i
-decreases-loop-i l = length l.times - l.i

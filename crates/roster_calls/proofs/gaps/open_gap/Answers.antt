@@ -1,18 +1,6 @@
-use native.Mathlib.Omega.{arith}
-use mathlib.Core.Path.{refl, ◌∙◌}
-use lib.ListN.{length-set}
-use Rattle.roster_calls.proofs.Shifts.{up_start, up_less, up_done}
+use Rattle.std.proofs.Common.{◌∙◌}
+use Rattle.roster_calls.proofs.Shifts.{up_all}
 use Rattle.roster_calls.proofs.gaps.open_gap.Goals as goal
 
-pub loop-k-init : goal.loop-k-init
-loop-k-init c = (omega arith, refl, up_start c.args.b.now c.args.at 138 c.requires)
-
-pub loop-k-preserved : goal.loop-k-preserved
-loop-k-preserved c =
-    (omega arith, simp length-set c.loop-k.invariant.1, rw c.loop-k.invariant.2 (up_less c.args.b.now c.args.at 138 c.requires c.loop-k.k (omega arith) c.loop-k.invariant.0))
-
-pub shape_of-b : goal.shape_of-b
-shape_of-b c = c.loop-k.invariant.1
-
 pub returns : goal.returns
-returns c = c.loop-k.invariant.2 ∙ up_done c.args.b.now c.args.at 138 c.requires c.loop-k.k (omega arith)
+returns g c = c.copy_within.ensures.after ∙ up_all c.args.s.now c.args.at c.args.size c.requires

@@ -9,4 +9,4 @@ is_number : (b : ℕ) → b % 0x8000_0000_0000_0000 ≤ 0x7ff0_0000_0000_0000 �
 is_number b h = subst (λ (z : Bool). T (not z)) (sym (nan_bits_above binary64 b)) (le→nltb 0x7ff0_0000_0000_0000 (b % 0x8000_0000_0000_0000) h)
 
 pub float_from_bits-result : goal.float_from_bits-result
-float_from_bits-result c = is_number _ c.if-b-gt9218868437227405312.false
+float_from_bits-result c = is_number _ c.if-bits-gt9218868437227405312.false

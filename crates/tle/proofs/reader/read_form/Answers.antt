@@ -1,22 +1,23 @@
 use mathlib.Core.Path.{ap, sym, ◌∙◌}
-use Rattle.tle.specs.declared.Verdict.{Verdict}
-use Rattle.tle.specs.declared.Verdict.TheVariants as verdict
+use Rattle.std.specs.Prelude.{Ok, Result}
+use Rattle.tle.specs.declared.Refusal.{Refusal}
 use Rattle.tle.specs.Read.{formed, fields_of, form_of}
-use Rattle.tle.proofs.Judged.{lengths}
+use Rattle.tle.proofs.Judged.{lengths, passed}
 use Rattle.tle.proofs.reader.read_form.Goals as goal
 
 pub fields-requires : goal.fields-requires
-fields-requires c = lengths _ _ (sym c.judge_pair-verdict.ensures ∙ c.in-Lawful.is)
+fields-requires c = lengths _ _ (sym c.judge_pair.ensures ∙ c.in_ok-judge_pair.was)
 
-pub returns-in-Refused : goal.returns-in-Refused
+pub returns-in_err-judge_pair : goal.returns-in_err-judge_pair
 unfolding form_of
-returns-in-Refused c =
+returns-in_err-judge_pair c =
     let a = c.args in
-    ap (λ (v : Verdict). formed v (fields_of a.line1.now a.line2.now)) (sym c.in-Refused.is ∙ c.judge_pair-verdict.ensures)
+    passed _ _ c.from_residual.ensures.1
+    ∙ ap (λ (v : Result (Unit {0}) Refusal). formed v (fields_of a.line1.now a.line2.now)) (sym c.in_err-judge_pair.was ∙ c.judge_pair.ensures)
 
-pub returns-in-Lawful : goal.returns-in-Lawful
+pub returns : goal.returns
 unfolding form_of
-returns-in-Lawful c =
+returns c =
     let a = c.args in
-    c.yielded.ensures ∙ ap (formed verdict.Lawful) c.fields.ensures
-    ∙ ap (λ (v : Verdict). formed v (fields_of a.line1.now a.line2.now)) (sym c.in-Lawful.is ∙ c.judge_pair-verdict.ensures)
+    c.yielded.ensures ∙ ap (formed (Ok tt)) c.fields.ensures
+    ∙ ap (λ (v : Result (Unit {0}) Refusal). formed v (fields_of a.line1.now a.line2.now)) (sym c.in_ok-judge_pair.was ∙ c.judge_pair.ensures)

@@ -1,4 +1,3 @@
-use borrow.Author.Rules.{rules}
 use native.Mathlib.Omega.{arith}
 use mathlib.Core.Path.{◌≡◌, sym, ◌∙◌}
 use lib.ListN.{length}
@@ -6,21 +5,20 @@ use Rattle.tle.proofs.Steps.{value_more, value_done, places, small}
 use Rattle.tle.proofs.reader.value.Goals as goal
 
 pub overflow_mul-a : goal.overflow_mul-a
-overflow_mul-a c = omega (arith, small c.loop-i.a c.loop-i.i c.loop-i.invariant.1 (omega arith))
+overflow_mul-a c = let l = c.loop-b in omega (arith, small l.a l.b-index l.invariant.0 (omega arith))
 
 pub overflow_add-a : goal.overflow_add-a
-overflow_add-a c = omega (arith, small c.loop-i.a c.loop-i.i c.loop-i.invariant.1 (omega arith))
+overflow_add-a c = let l = c.loop-b in omega (arith, small l.a l.b-index l.invariant.0 (omega arith))
 
-pub loop-i-preserved : goal.loop-i-preserved
-loop-i-preserved c =
-    let s = c.args.s.now in (
-      search rules,
-      places _ _ _ c.loop-i.invariant.1 c.digit.ensures.1,
-      rw c.digit.ensures.0 (sym (value_more s c.loop-i.i c.loop-i.a (omega arith)) ∙ c.loop-i.invariant.2),
+pub loop-b-preserved : goal.loop-b-preserved
+loop-b-preserved c =
+    let l = c.loop-b in (
+      places _ _ _ l.invariant.0 c.digit.ensures.1,
+      rw c.digit.ensures.0 (sym (value_more c.args.s.now l.b-index l.a (omega arith)) ∙ l.invariant.1),
     )
 
 pub returns : goal.returns
 returns c =
-    let s = c.args.s.now in
-    let e : c.loop-i.i ≡ length s = omega arith in
-    (sym (value_done s _ _ c.loop-i-test.false) ∙ c.loop-i.invariant.2, rw e at c.loop-i.invariant.1)
+    let l = c.loop-b in
+    let e : l.b-index ≡ length c.args.s.now = omega arith in
+    (sym (value_done c.args.s.now _ _ (omega arith)) ∙ l.invariant.1, rw e at l.invariant.0)

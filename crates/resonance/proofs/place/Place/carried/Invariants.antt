@@ -1,11 +1,7 @@
-use mathlib.Core.Path.{◌≡◌}
-use Prim.Native.Nat.{◌≤◌, ◌<◌, ◌-◌, ◌^◌}
+use Rattle.std.proofs.Common.{◌≡◌, ◌-◌}
 use Rattle.resonance.specs.Place.{number, iter}
 use Rattle.resonance.proofs.place.Place.carried.Given as goal
 
 -- what is left to do is unchanged
-abbrev pub invariant-loop-p : goal.invariant-loop-p
-invariant-loop-p l = (l.goal < 2 ^ 32) × (number l.p ≤ l.goal) × (iter l.i (l.goal - number l.p) l.p ≡ iter l.i (l.goal - number l.initial.p) l.initial.p)
-
-abbrev pub decreases-loop-p : goal.decreases-loop-p
-decreases-loop-p l = l.goal - number l.p
+abbrev pub invariant-loop : goal.invariant-loop
+invariant-loop l = record { reached : number l.p ≡ l.counter; rest : iter l.i (l.end - number l.p) l.p ≡ iter l.i (l.end - number l.initial.p) l.initial.p }

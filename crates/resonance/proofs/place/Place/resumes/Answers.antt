@@ -1,6 +1,18 @@
+use Rattle.std.proofs.Common.{◌≡◌, refl, ◌∙◌}
 use borrow.Author.Tests.{eq-eqb, ne_eqb, lt-ltb, le-ltb}
-use Rattle.resonance.specs.Place.{resumes}
+use denote.Enum.Bare.{sameb}
+use Rattle.resonance.specs.declared.place.Side.{Side}
+use Rattle.resonance.specs.declared.place.Side.TheVariants.{Forward, Back}
+use Rattle.resonance.specs.contracts.place.Side.{the_type}
+use Rattle.resonance.specs.Place.{same_side, resumes}
 use Rattle.resonance.proofs.place.Place.resumes.Goals as goal
+
+-- the derived `==` of the sides
+sides : (d e : Side) → sameb the_type d e ≡ same_side d e
+sides Forward Forward = refl
+sides Forward Back = refl
+sides Back Forward = refl
+sides Back Back = refl
 
 pub returns-then-m-n : goal.returns-then-m-n
 unfolding resumes
@@ -12,4 +24,4 @@ returns-then-n-eq0 c = simp (le-ltb _ _ c.if-m-n.false, eq-eqb _ _ c.if-n-eq0.tr
 
 pub returns : goal.returns
 unfolding resumes
-returns c = simp (le-ltb _ _ c.if-m-n.false, ne_eqb _ _ c.if-n-eq0.false) c.same_side.ensures
+returns c = simp (le-ltb _ _ c.if-m-n.false, ne_eqb _ _ c.if-n-eq0.false) (c.eq.ensures ∙ sides _ _)

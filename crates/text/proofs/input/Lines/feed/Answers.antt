@@ -1,19 +1,12 @@
-use borrow.Author.Rules.{rules}
 use Rattle.text.proofs.Feeding.{turn, end}
-use mathlib.Core.Path.{refl, sym, ◌∙◌}
+use mathlib.Core.Path.{sym, ◌∙◌}
 use native.Mathlib.Omega.{arith}
 use Rattle.text.proofs.input.Lines.feed.Goals as goal
 
-pub loop-i-init : goal.loop-i-init
-loop-i-init c = (search rules, refl)
-
-pub loop-i-preserved : goal.loop-i-preserved
-loop-i-preserved c =
-    let l = c.loop-i in
-    let p = c.args.piece.now in
-    (search rules, rw c.step-lines.ensures (sym (turn l.lines p l.i (omega arith)) ∙ l.invariant.1))
+pub loop-byte-preserved : goal.loop-byte-preserved
+loop-byte-preserved c =
+    let l = c.loop-byte in
+    rw c.step-lines.ensures (sym (turn l.lines c.args.piece.now l.byte-index (omega arith)) ∙ l.invariant)
 
 pub returns : goal.returns
-returns c =
-    let l = c.loop-i in
-    sym (end l.lines c.args.piece.now l.i c.loop-i-test.false) ∙ l.invariant.1
+returns c = sym (end c.loop-byte.lines c.args.piece.now c.loop-byte.byte-index (omega arith)) ∙ c.loop-byte.invariant

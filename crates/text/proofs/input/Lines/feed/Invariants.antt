@@ -1,11 +1,7 @@
 use Rattle.text.specs.Input.{fed}
-use lib.ListN.{length, drop}
-use Prim.Native.Nat.{◌≤◌, ◌-◌}
+use lib.ListN.{drop}
 use mathlib.Core.Path.{◌≡◌}
 use Rattle.text.proofs.input.Lines.feed.Given as goal
 
-abbrev pub invariant-loop-i : goal.invariant-loop-i
-invariant-loop-i l = (l.i ≤ length l.piece) × (fed l.lines (drop l.i l.piece) ≡ fed l.initial.lines l.piece)
-
-abbrev pub decreases-loop-i : goal.decreases-loop-i
-decreases-loop-i l = length l.piece - l.i
+abbrev pub invariant-loop-byte : goal.invariant-loop-byte
+invariant-loop-byte l = fed l.lines (drop l.byte-index l.piece) ≡ fed l.initial.lines l.piece

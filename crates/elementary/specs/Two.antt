@@ -1,0 +1,1 @@
+pub use Rattle.arctangent.specs.declared.pairs.Two.{Two}
