@@ -8,9 +8,9 @@ ghost use Rattle.roster.specs.Row.{roster_with};
 ghost use Rattle.compare.specs.Compare.{compared_number, text_of, compared_of, compared_over};
 ghost use Rattle.compare.specs.Walk.{records_in, Holding, front, Stands, StandsAt, turn_text, first_passed, second_passed, pairs_text, pairs_first, pairs_second, Turned};
 
-use field_lines::put_fields;
+use field_lines::{put_each, put_fields};
 use roster::{all_zero, is_no_roster};
-use text::{put_byte, put_bytes};
+use text::put_byte;
 use tle::{Record, read_form, read_meaning};
 
 #[derive(Clone, Copy)]
@@ -89,9 +89,9 @@ fn put_place(out: &mut [u8], at: usize, word: &[u8], b: &[u8], i: usize) -> usiz
 {
     let from = i * 138;
     let end = from + 138;
-    let p = put_bytes(out, at, word);
+    let p = put_each(out, at, word);
     let p = put_byte(out, p, b' ');
-    let p = put_bytes(out, p, &b[from..end]);
+    let p = put_each(out, p, &b[from..end]);
     put_byte(out, p, b'\n')
 }
 

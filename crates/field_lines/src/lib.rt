@@ -15,8 +15,20 @@ ghost use Rattle.field_lines.specs.Lines.{named, unless_line, shape_text, counts
 
 use listing::{put_designator, put_scaled};
 use roster::instant_of;
-use text::{put_byte, put_bytes, put_decimal, put_signed};
+use text::{put_byte, put_decimal, put_signed};
 use tle::{Class, Designator, Record, Scaled, legal};
+
+// The bytes one by one. `put_bytes` of text, laid into the functions here, copies by the C library's memmove,
+// which the archive does without.
+pub fn put_each(out: &mut [u8], at: usize, bytes: &[u8]) -> usize
+    ensures { Put out.old at bytes.now out.new result }
+{
+    let mut next = at;
+    for &b in bytes {
+        next = put_byte(out, next, b);
+    }
+    next
+}
 
 // The number and the label, each with a blank behind it.
 fn put_name(out: &mut [u8], at: usize, number: u64, label: &[u8]) -> usize
@@ -24,7 +36,7 @@ fn put_name(out: &mut [u8], at: usize, number: u64, label: &[u8]) -> usize
 {
     let p = put_decimal(out, at, number);
     let p = put_byte(out, p, b' ');
-    let p = put_bytes(out, p, label);
+    let p = put_each(out, p, label);
     put_byte(out, p, b' ')
 }
 

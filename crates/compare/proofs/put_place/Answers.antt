@@ -6,4 +6,4 @@ use Rattle.compare.proofs.put_place.Goals as goal
 pub returns : goal.returns
 returns c =
     simp append_assoc
-    (both c.put_bytes-p.ensures (both c.put_byte-p.ensures (both (same (part c.args.b.now c.args.i) c.put_bytes-p-2.ensures) c.put_byte.ensures)))
+    (both c.put_each-p.ensures (both c.put_byte-p.ensures (both (same (part c.args.b.now c.args.i) c.put_each-p-2.ensures) c.put_byte.ensures)))
