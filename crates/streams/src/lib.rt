@@ -9,7 +9,7 @@ ghost use Rattle.std.specs.Prelude.{◌≡◌, true};
 ghost use Rattle.io.specs.Counts.{IsPrefixLen};
 
 use std::fmt::Display;
-use std::io::{Error, Print, Read, Result, Write};
+use std::io::{Error, Print, Read, Result};
 use text::put_decimal;
 use words::Words;
 
@@ -99,7 +99,7 @@ pub fn print_line<D: Display + Drop>(rt: HostRuntime, failed: &mut bool, shown: 
     ensures { failed.old ≡ true → failed.new ≡ true }
 {
     if !*failed {
-        mark(rt, failed, rt.stdout().writeln(shown));
+        mark(rt, failed, rt.stdout().println(shown));
     }
 }
 
